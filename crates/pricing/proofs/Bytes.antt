@@ -4,8 +4,7 @@ use mathlib.Core.List.{List, [], _∷_, _++_}
 use mathlib.Core.Path.{_≡_, refl, sym, ap, _∙_}
 use native.Mathlib.Nat.{pow-suc, div-div-eq-div-mul}
 use native.Mathlib.Omega.{arith}
-use lib.ListN.{length, getD, drop}
-use Rattle.std.proofs.shelf.Lists.{drop-all}
+use lib.ListN.{length, getD}
 use Rattle.pricing.specs.Shown.{low-bytes, in-bytes}
 
 pub low-bytes-length : (k n : ℕ) → length (low-bytes k n) ≡ k
@@ -52,13 +51,11 @@ eight-bytes n h =
     let low : n % 256 ≡ n / 1 % 256 = omega arith in
     cc
 
--- Four bytes and eight bytes, one by one, fill a room of twelve.
-pub twelve-bytes : (a b old : List ℕ) (f m : ℕ) → a ≡ in-bytes 4 f → b ≡ in-bytes 8 m → length old ≡ 12
+-- Four bytes and eight bytes, one by one.
+pub twelve-bytes : (a b : List ℕ) (f m : ℕ) → a ≡ in-bytes 4 f → b ≡ in-bytes 8 m
     → getD a 0 0 ∷ getD a 1 0 ∷ getD a 2 0 ∷ getD a 3 0 ∷ getD b 0 0 ∷ getD b 1 0 ∷ getD b 2 0 ∷ getD b 3 0 ∷ getD b 4 0 ∷ getD b 5 0 ∷ getD b 6 0 ∷ getD b 7 0 ∷ []
-    ≡ (in-bytes 4 f ++ in-bytes 8 m) ++ drop (length (in-bytes 4 f ++ in-bytes 8 m)) old
+    ≡ in-bytes 4 f ++ in-bytes 8 m
 unfolding in-bytes low-bytes
-twelve-bytes a b old f m p q whole =
-    let none : [] ≡ drop 12 old = sym (drop-all 12 old (omega arith)) in
+twelve-bytes a b f m p q =
     ap (λ xs. getD xs 0 0 ∷ getD xs 1 0 ∷ getD xs 2 0 ∷ getD xs 3 0 ∷ getD b 0 0 ∷ getD b 1 0 ∷ getD b 2 0 ∷ getD b 3 0 ∷ getD b 4 0 ∷ getD b 5 0 ∷ getD b 6 0 ∷ getD b 7 0 ∷ []) p
     ∙ ap (λ ys. in-bytes 4 f ++ (getD ys 0 0 ∷ getD ys 1 0 ∷ getD ys 2 0 ∷ getD ys 3 0 ∷ getD ys 4 0 ∷ getD ys 5 0 ∷ getD ys 6 0 ∷ getD ys 7 0 ∷ [])) q
-    ∙ ap (λ zs. (in-bytes 4 f ++ in-bytes 8 m) ++ zs) none

@@ -5,10 +5,11 @@ use mathlib.Core.Logic.{_⊎_, inl, inr, ⊎-elim}
 use mathlib.Core.Path.{_≡_, refl, ap, subst}
 use native.Mathlib.Omega.{arith}
 use lib.Dec.{T, T-prop, eqb, leb, ltb}
+use Rattle.std.proofs.shelf.Tests.{leb-true}
 use Rattle.std.proofs.shelf.Ways.{tells}
 use Rattle.pricing.specs.Clocks.{limited, test-ms, join-ms, most-ms}
 use Rattle.pricing.specs.Counts.{counts, most-fetches}
-use Rattle.pricing.specs.Fetches.{counted, counted-fetches, counted-ms, test-fetches, fetches-first, uncounted}
+use Rattle.pricing.specs.Fetches.{counted, counted-fetches, counted-ms, test-fetches, fetches-first, uncounted, One-past}
 use Rattle.pricing.specs.Models.{Lawful}
 use Rattle.pricing.specs.declared.fetch_prices.FetchPrice.{FetchPrice}
 
@@ -92,7 +93,10 @@ at-limit : (fetches ms : ℕ) → leb most-fetches fetches ≡ true → T (count
 at-limit fetches ms far whole = grind (arith, tells)
 
 -- No other price has as many fetches as the limit.
-pub past-alone : (price : FetchPrice) → fetches-first .past price ≡ true → price ≡ uncounted
+past-alone : (price : FetchPrice) → fetches-first .past price ≡ true → price ≡ uncounted
 past-alone price far =
     let both : (price .fetches ≡ most-fetches) × (price .ms ≡ most-ms) = at-limit (price .fetches) (price .ms) far (price .whole) in
     same-price price uncounted (both .0) (both .1)
+
+pub one-past : One-past
+one-past = record { by-clock = λ price most far. omega (arith, leb-true most-ms price far); by-fetches = past-alone }

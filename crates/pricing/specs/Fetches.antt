@@ -1,11 +1,11 @@
 -- Fetches first prices by fetches, and of equally many by milliseconds.
-use Prim.Native.Nat.{ℕ, _+_, min}
+use Prim.Native.Nat.{ℕ, _+_, _≤_, min}
 use mathlib.Core.Bool.{Bool, true, false, cond, _&&_, _||_}
 use mathlib.Core.Path.{_≡_, refl, subst}
 use native.Mathlib.Omega.{arith}
 use Rattle.std.proofs.shelf.Tests.{leb-true, leb-false, lt-leb}
 use lib.Dec.{T, eqb, leb, ltb}
-use Rattle.pricing.specs.Clocks.{most-ms, limited, test-ms, join-ms}
+use Rattle.pricing.specs.Clocks.{clock, most-ms, limited, test-ms, join-ms}
 use Rattle.pricing.specs.Counts.{most-fetches, counts}
 use Rattle.pricing.specs.Models.{Model}
 use Rattle.pricing.specs.declared.kinds.Kind.{Kind}
@@ -51,3 +51,8 @@ fetches-first = record {
   at-most = λ a b. ltb (a .fetches) (b .fetches) || (eqb (a .fetches) (b .fetches) && leb (a .ms) (b .ms));
   past = λ price. leb most-fetches (price .fetches);
 }
+
+-- Under each model one price alone is past the count: 2^64 - 1 ms, and the most fetches with as many.
+pub record One-past : Type 0 where
+  pub by-clock : (price : ℕ) → price ≤ most-ms → clock .past price ≡ true → price ≡ most-ms
+  pub by-fetches : (price : FetchPrice) → fetches-first .past price ≡ true → price ≡ uncounted

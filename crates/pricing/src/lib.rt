@@ -11,6 +11,7 @@ pub use clocks::ClockPrices;
 pub use fetch_prices::FetchPrice;
 pub use fetches::FetchesFirst;
 pub use fetches::FetchesFirstPrices;
+pub use fetches::one_price_is_past_the_count;
 pub use kinds::Kind;
 pub use models::PriceModel;
 pub use printing::ClockBytes;
