@@ -24,13 +24,21 @@ pub(crate) fn test_ms(size: u32, cost: u16) -> u128
     (size as u64 * cost as u64) as u128
 }
 
+// The costs of the ties across, for each pair of rows.
+fn pair_ms(left_size: u32, right_size: u32, costs: u32) -> u128
+    ensures value { λ r. ⌜ r ≡ «left_size» * «right_size» * costs ⌝ }
+    ensures bound { λ r. ⌜ r < 2 ^ 96 ⌝ }
+{
+    let pairs = left_size as u64 * right_size as u64;
+    pairs as u128 * costs as u128
+}
+
 // What a join adds.
 pub(crate) fn join_ms(left_size: u32, right_size: u32, size: u32, costs: u32) -> u128
     ensures value { λ r. ⌜ r ≡ join-ms «left_size» «right_size» size costs ⌝ }
     ensures bound { λ r. ⌜ r < 2 ^ 97 ⌝ }
 {
-    let pairs = left_size as u64 * right_size as u64;
-    size as u128 + pairs as u128 * costs as u128
+    size as u128 + pair_ms(left_size, right_size, costs)
 }
 
 #[derive(Clone, Copy, Debug)]

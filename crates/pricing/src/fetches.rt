@@ -82,8 +82,6 @@ pub impl PriceModel for FetchesFirst as FetchesFirstPrices {
 }
 
 // Under each model one price alone is past the count.
-pub fn one_price_is_past_the_count() -> bool
+pub fn one_price_is_past_the_count()
     ensures { λ _. ⌜ One-past ⌝ }
-{
-    true
-}
+{}
