@@ -50,7 +50,7 @@ fn show(rt: &LibcRuntime, question: &Question) -> io::Result<()> {
     )
 }
 
-// One line of the sheet: the question after the correction, or as it was where the line is refused.
+// One line of the sheet, in words: the question after the correction, or as it was where the line is refused.
 fn correct(rt: &LibcRuntime, question: Question, number: u32, text: &str) -> io::Result<Question> {
     let by = match read(text.as_bytes()) {
         Ok(by) => by,
@@ -79,15 +79,27 @@ fn correct(rt: &LibcRuntime, question: Question, number: u32, text: &str) -> io:
     Ok(after)
 }
 
+// The question in words.
+fn introduce(rt: &LibcRuntime, question: &Question) -> io::Result<()> {
+    let (films, reels) = (question.films, question.reels);
+    let (tie, tie_cost) = (question.tie, question.tie_cost);
+    let (tie_p, tie_q) = (tie.p, tie.q);
+    println!(
+        rt,
+        "{films} films on {reels} reels, tied at {tie_p}/{tie_q} and {tie_cost} ms a pair"
+    )?;
+    let (test, test_cost) = (question.test, question.test_cost);
+    let (test_p, test_q) = (test.p, test.q);
+    println!(
+        rt,
+        "a test that sends the gripper for each film keeps {test_p}/{test_q}, at {test_cost} ms a row"
+    )
+}
+
 // Standard input is a bench sheet, a reading a line, in seconds: each corrects the cost that the lines above it left.
 fn main(rt: LibcRuntime) -> Result<(), AnyError> {
     let mut question = SAMPLE;
-    let (films, reels, cost) = (question.films, question.reels, question.test_cost);
-    println!(
-        rt,
-        "{films} films on {reels} reels; the gripper fetches each film that is tested"
-    )?;
-    println!(rt, "as set, {cost} ms a row")?;
+    introduce(&rt, &question)?;
     show(&rt, &question)?;
     let mut number = 0u32;
     for line in rt.lines(rt.alloc()) {

@@ -1,0 +1,29 @@
+use mathlib.Core.Path.{_≡_, ap, _∙_}
+use mathlib.Core.List.{List}
+use Prim.Native.Nat.{ℕ, _-_}
+use lib.IntN.{ℤ}
+use lib.ListN.{length, getD, take, drop}
+use borrow.Author.Needs.{needs}
+use Rattle.std.proofs.shelf.Lists.{take-rest}
+use Rattle.std.proofs.shelf.Tests.{ne-eqb}
+use Rattle.std.specs.declared.result.Result.{Result}
+use Rattle.reading.specs.declared.ReadingFault.{ReadingFault}
+use Rattle.reading.specs.Outcomes.{unsigned-reading, plain, negative, reading}
+use Rattle.reading.proofs.Laws.{meant}
+use Rattle.reading.proofs.reader.read.Needs as need
+
+after-minus : (t : List ℕ) (r : Result ℤ ReadingFault) → getD t 0 0 ≡ 45 → r ≡ negative (unsigned-reading (take (length t - 1) (drop 1 t))) → r ≡ reading t
+after-minus t r h e = rw h (e ∙ ap (λ u. negative (unsigned-reading u)) (take-rest t 1))
+
+without-minus : (t : List ℕ) (r : Result ℤ ReadingFault) → (getD t 0 0 ≡ 45 → ⊥) → r ≡ plain (unsigned-reading t) → r ≡ reading t
+without-minus t r h e = rw (ne-eqb (getD t 0 0) 45 h) e
+
+pub returns-in-45 : need.returns-in-45
+returns-in-45 c =
+    let o = after-minus (c .args .text .now) (c .after-minus .result) (search needs) (c .after-minus .ensures) in
+    record { outcome = o; meaning = meant (c .args .text .now) (c .after-minus .result) o }
+
+pub returns-in-rest : need.returns-in-rest
+returns-in-rest c =
+    let o = without-minus (c .args .text .now) (c .without-minus .result) (search needs) (c .without-minus .ensures) in
+    record { outcome = o; meaning = meant (c .args .text .now) (c .without-minus .result) o }
