@@ -1,8 +1,8 @@
 -- Reading and writing undo each other.
-use mathlib.Core.Path.{_≡_, refl, sym, ap, subst, _∙_}
-use mathlib.Core.Bool.{Bool, true, false, cond}
+use mathlib.Core.Path.{_≡_, refl, sym, ap, _∙_}
+use mathlib.Core.Bool.{Bool, true, false}
 use mathlib.Core.List.{List, [], _∷_, _++_}
-use mathlib.Core.Logic.{_⊎_, inl, inr, ⊎-elim}
+use mathlib.Core.Logic.{inl, inr, ⊎-elim}
 use Prim.Native.Nat.{ℕ, zero, suc, _≤_}
 use native.Mathlib.Omega.{arith}
 use lib.Dec.{eqb}
@@ -12,15 +12,15 @@ use Rattle.std.specs.declared.result.Result.{Result}
 use Rattle.std.specs.declared.result.Result.the-variants.{Ok, Err}
 use Rattle.std.specs.shelf.Lists.{All}
 use Rattle.std.proofs.shelf.Signed.{ints}
-use Rattle.std.proofs.shelf.Tests.{cases-bool, eqb-true, eqb-false, ne-eqb}
+use Rattle.std.proofs.shelf.Tests.{false≢true, cases-bool, eqb-true, eqb-false, ne-eqb}
 use Rattle.reading.specs.declared.ReadingFault.{ReadingFault}
 use Rattle.reading.specs.declared.ReadingFault.the-variants.{WrongForm}
 use Rattle.reading.specs.Forms.{Digit, Reads, InRange, sign, signed, point, value}
-use Rattle.reading.specs.Texts.{text, unsigned-text}
+use Rattle.reading.specs.Texts.{five-digits, laid, text}
 use Rattle.reading.specs.Outcomes.{unsigned-reading, plain, negative, reading, Meant}
 use Rattle.reading.specs.Undo.{Undo}
 use Rattle.reading.proofs.Lists.{by-elements}
-use Rattle.reading.proofs.Unsigned.{Unsigned, one, two, unsigned-sound, unsigned-complete, unsigned-first, unsigned-length, unsigned-bound, unsigned-is-text, unsigned-has-text}
+use Rattle.reading.proofs.Unsigned.{Unsigned, one, two, err-is-no-ok, unsigned-sound, unsigned-complete, unsigned-first, unsigned-length, unsigned-bound, unsigned-is-text, unsigned-has-text}
 
 -- a reading is a sign before a reading without one
 reads-from : (minus : Bool) {u : List ℕ} {m : ℕ} (n : ℤ) → Unsigned u m → n ≡ signed minus m → (minus ≡ true → n ≡ pos 0 → ⊥) → Reads (sign minus ++ u) n
@@ -74,22 +74,22 @@ unsigned-from r =
 -- what `reading` answers, by the sign
 plain-from : (r : Result ℕ ReadingFault) (n : ℤ) → plain r ≡ Ok n → (m : ℕ) × (r ≡ Ok m) × (n ≡ pos m)
 plain-from (Ok m) n e = (m, refl, (cc))
-plain-from (Err x) n e = let z : _≡_ {A = ℕ} 0 1 = cc in absurd (omega arith)
+plain-from (Err x) n e = absurd (err-is-no-ok x n e)
 
 negative-from : (r : Result ℕ ReadingFault) (n : ℤ) → negative r ≡ Ok n → (m : ℕ) × (r ≡ Ok m) × (n ≡ negℤ (pos m)) × (m ≡ 0 → ⊥)
 negative-from (Ok m) n e =
     ⊎-elim
-    (λ (z : eqb m 0 ≡ true). let f = rw z at e in let z : _≡_ {A = ℕ} 0 1 = cc in absurd (omega arith))
+    (λ (z : eqb m 0 ≡ true). absurd (err-is-no-ok WrongForm n (rw z at e)))
     (λ (z : eqb m 0 ≡ false). let f = rw z at e in (m, refl, (cc), eqb-false m 0 z))
     (cases-bool (eqb m 0))
-negative-from (Err x) n e = let z : _≡_ {A = ℕ} 0 1 = cc in absurd (omega arith)
+negative-from (Err x) n e = absurd (err-is-no-ok x n e)
 
 -- a negative of what is not zero is not zero
 not-zero : (m : ℕ) (n : ℤ) → (m ≡ 0 → ⊥) → n ≡ negℤ (pos m) → n ≡ pos 0 → ⊥
 not-zero m n h e z = omega (arith, ints)
 
 sound : (t : List ℕ) (n : ℤ) → reading t ≡ Ok n → Reads t n
-sound [] n e = let z : _≡_ {A = ℕ} 0 1 = cc in absurd (omega arith)
+sound [] n e = absurd (err-is-no-ok WrongForm n e)
 sound (c ∷ cs) n e =
     ⊎-elim
     (λ (k : eqb c 45 ≡ true).
@@ -97,13 +97,11 @@ sound (c ∷ cs) n e =
     rw (eqb-true c 45 k) (reads-from true n (unsigned-sound cs (p .0) (p .1)) (p .2) (λ _. not-zero (p .0) n (p .3) (p .2))))
     (λ (k : eqb c 45 ≡ false).
     let p = plain-from (unsigned-reading (c ∷ cs)) n (rw k at e) in
-    reads-from false n (unsigned-sound (c ∷ cs) (p .0) (p .1)) (p .2) (λ f. let z : _≡_ {A = ℕ} 0 1 = cc in absurd (omega arith)))
+    reads-from false n (unsigned-sound (c ∷ cs) (p .0) (p .1)) (p .2) (λ f. absurd (false≢true f)))
     (cases-bool (eqb c 45))
 
--- zero has no minus
-module _ (m : ℕ) (n : ℤ) where
-  nonzero : n ≡ negℤ (pos m) → (n ≡ pos 0 → ⊥) → m ≡ 0 → ⊥
-  nonzero e k z = omega (arith, ints)
+nonzero : (m : ℕ) (n : ℤ) → n ≡ negℤ (pos m) → (n ≡ pos 0 → ⊥) → m ≡ 0 → ⊥
+nonzero m n e k z = omega (arith, ints)
 
 complete-at : (minus : Bool) {u : List ℕ} {m : ℕ} (n : ℤ) → Unsigned u m → n ≡ signed minus m → (minus ≡ true → n ≡ pos 0 → ⊥) → reading (sign minus ++ u) ≡ Ok n
 complete-at true {u} {m} n h e k = rw (unsigned-complete h, ne-eqb m 0 (nonzero m n e (k refl))) (ap Ok (sym e))
@@ -121,7 +119,7 @@ range-at false m n h e = omega (arith, ints)
 in-range : (t : List ℕ) (n : ℤ) → Reads t n → InRange n
 in-range t n r = range-at (r .minus) (value (r .whole ++ r .fraction)) n (unsigned-bound (unsigned-from r)) (r .number)
 
-text-at : (minus : Bool) (m : ℕ) (n : ℤ) → n ≡ signed minus m → (minus ≡ true → n ≡ pos 0 → ⊥) → sign minus ++ unsigned-text m ≡ text n
+text-at : (minus : Bool) (m : ℕ) (n : ℤ) → n ≡ signed minus m → (minus ≡ true → n ≡ pos 0 → ⊥) → sign minus ++ laid false (five-digits m) ≡ text n
 text-at true zero n e k = absurd (k refl e)
 text-at true (suc m) n e k = ap text (sym e)
 text-at false m n e k = ap text (sym e)
@@ -131,7 +129,7 @@ is-text t n r =
     r .parts ∙ ap (λ u. sign (r .minus) ++ u) (unsigned-is-text (unsigned-from r)) ∙ text-at (r .minus) (value (r .whole ++ r .fraction)) n (r .number) (r .no-minus-on-zero)
 
 has-text : (n : ℤ) → InRange n → Reads (text n) n
-has-text (pos m) h = reads-from false (pos m) (unsigned-has-text m (omega (arith, ints))) refl (λ f. let z : _≡_ {A = ℕ} 0 1 = cc in absurd (omega arith))
+has-text (pos m) h = reads-from false (pos m) (unsigned-has-text m (omega (arith, ints))) refl (λ f. absurd (false≢true f))
 has-text (negsuc m) h = reads-from true (negsuc m) (unsigned-has-text (suc m) (omega (arith, ints))) refl (λ _ f. omega (arith, ints))
 
 length-at : (minus : Bool) (u : List ℕ) → (5 ≤ length u) × (length u ≤ 6) → (5 ≤ length (sign minus ++ u)) × (length (sign minus ++ u) ≤ 7)
@@ -161,4 +159,4 @@ undo =
 -- what an answer of `reading` means
 pub meant : (t : List ℕ) (r : Result ℤ ReadingFault) → r ≡ reading t → Meant t r
 meant t (Ok n) e = sound t n (sym e)
-meant t (Err x) e = λ n h. let p = complete t n h in let z : _≡_ {A = ℕ} 0 1 = cc in omega arith
+meant t (Err x) e = λ n h. err-is-no-ok x n (e ∙ complete t n h)

@@ -1,8 +1,8 @@
 -- What `read` answers for each text, and what `write` answers and leaves in the buffer.
 use mathlib.Core.Path.{_≡_}
-use mathlib.Core.Bool.{Bool, true, false, cond, not, _&&_}
+use mathlib.Core.Bool.{Bool, true, cond, not, _&&_}
 use mathlib.Core.List.{List, [], _∷_, _++_}
-use Prim.Native.Nat.{ℕ, suc, _-_, _≤_, _<_}
+use Prim.Native.Nat.{ℕ, _-_, _≤_, _<_}
 use lib.Dec.{eqb, leb}
 use lib.IntN.{ℤ, pos, negℤ}
 use lib.ListN.{length, getD, take, drop}
@@ -30,15 +30,19 @@ digit-value c = cond (is-digit c) (Ok (c - 48)) (Err WrongForm)
 abbrev pub digits-value : List ℕ → Result ℕ ReadingFault
 digits-value cs = cond (are-digits cs) (Ok (value cs)) (Err WrongForm)
 
--- the value of digits with a point (46) after the first w
-abbrev pub pointed : ℕ → List ℕ → Result ℕ ReadingFault
-pointed w t = cond (eqb (getD t w 0) 46) (digits-value (take w t ++ drop (suc w) t)) (Err WrongForm)
+-- a digit, a point (46) and three digits
+abbrev pub five-characters : (a p x y z : ℕ) → Result ℕ ReadingFault
+five-characters a p x y z = cond (eqb p 46) (digits-value (a ∷ x ∷ y ∷ z ∷ [])) (Err WrongForm)
 
--- a reading without its sign: a second digit before the point asks that the first is not '0' (48)
+-- two digits, of which the first is not '0' (48), a point and three digits
+abbrev pub six-characters : (a b p x y z : ℕ) → Result ℕ ReadingFault
+six-characters a b p x y z = cond (not (eqb a 48) && eqb p 46) (digits-value (a ∷ b ∷ x ∷ y ∷ z ∷ [])) (Err WrongForm)
+
+-- a reading without its sign
 abbrev pub unsigned-reading : List ℕ → Result ℕ ReadingFault
 unsigned-reading t =
-    cond (eqb (length t) 5) (pointed 1 t)
-    (cond (eqb (length t) 6 && not (eqb (getD t 0 0) 48)) (pointed 2 t)
+    cond (eqb (length t) 5) (five-characters (getD t 0 0) (getD t 1 0) (getD t 2 0) (getD t 3 0) (getD t 4 0))
+    (cond (eqb (length t) 6) (six-characters (getD t 0 0) (getD t 1 0) (getD t 2 0) (getD t 3 0) (getD t 4 0) (getD t 5 0))
     (Err WrongForm))
 
 abbrev pub plain : Result ℕ ReadingFault → Result ℤ ReadingFault

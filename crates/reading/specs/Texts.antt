@@ -1,31 +1,29 @@
 -- The text of a number of thousandths.
-use mathlib.Core.Bool.{cond}
+use mathlib.Core.Bool.{Bool, true, false, cond}
 use mathlib.Core.List.{List, [], _∷_, _++_}
 use Prim.Native.Nat.{ℕ, suc, _+_, _/_, _%_}
-use lib.Dec.{ltb}
+use lib.Dec.{eqb}
 use lib.IntN.{ℤ, pos, negsuc}
+use lib.ListN.{getD}
 use Rattle.reading.specs.Forms.{point, sign}
-use mathlib.Core.Bool.{true}
 
--- the character of a digit
-abbrev pub digit-text : ℕ → ℕ
-digit-text d = 48 + d
+-- the character of the lowest digit
+abbrev pub last-digit : ℕ → ℕ
+last-digit n = 48 + n % 10
 
--- the five lowest digits of a number
-abbrev pub five-texts : ℕ → List ℕ
-five-texts n = digit-text (n / 10_000 % 10) ∷ digit-text (n / 1_000 % 10) ∷ digit-text (n / 100 % 10) ∷ digit-text (n / 10 % 10) ∷ digit-text (n % 10) ∷ []
+-- the characters of the five lowest digits
+abbrev pub five-digits : ℕ → List ℕ
+five-digits n = last-digit (n / 10_000) ∷ last-digit (n / 1_000) ∷ last-digit (n / 100) ∷ last-digit (n / 10) ∷ last-digit n ∷ []
 
--- one digit below ten, else two
-abbrev pub whole-text : ℕ → List ℕ
-whole-text n = cond (ltb n 10) (digit-text n ∷ []) (digit-text (n / 10) ∷ digit-text (n % 10) ∷ [])
+-- the whole part: two digits, or only the second where the first is '0' (48)
+abbrev pub whole-text : (tens ones : ℕ) → List ℕ
+whole-text tens ones = cond (eqb tens 48) (ones ∷ []) (tens ∷ ones ∷ [])
 
-abbrev pub fraction-text : ℕ → List ℕ
-fraction-text n = digit-text (n / 100) ∷ digit-text (n / 10 % 10) ∷ digit-text (n % 10) ∷ []
+-- five digits as a text: two for the whole part, a point, and three
+abbrev pub laid : (minus : Bool) → List ℕ → List ℕ
+laid minus ds = sign minus ++ (whole-text (getD ds 0 0) (getD ds 1 0) ++ (point ++ (getD ds 2 0 ∷ getD ds 3 0 ∷ getD ds 4 0 ∷ [])))
 
-abbrev pub unsigned-text : ℕ → List ℕ
-unsigned-text n = whole-text (n / 1000) ++ (point ++ fraction-text (n % 1000))
-
--- a minus just where the number is negative, and so none on zero
+-- a minus stands just where the number is negative, so never on zero
 abbrev pub text : ℤ → List ℕ
-text (pos n) = unsigned-text n
-text (negsuc n) = sign true ++ unsigned-text (suc n)
+text (pos n) = laid false (five-digits n)
+text (negsuc n) = laid true (five-digits (suc n))

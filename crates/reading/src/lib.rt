@@ -29,6 +29,7 @@ pub enum WriteRefusal {
 }
 
 impl ReadingFault {
+    // The number by which the fault is reported.
     pub fn number(self) -> u8
         ensures { λ r. ⌜ r ≡ fault-number self ⌝ }
     {
@@ -39,6 +40,7 @@ impl ReadingFault {
 }
 
 impl WriteRefusal {
+    // The number by which the refusal is reported.
     pub fn number(self) -> u8
         ensures { λ r. ⌜ r ≡ refusal-number self ⌝ }
     {

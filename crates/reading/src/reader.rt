@@ -1,11 +1,12 @@
 // From a text to its number.
 ghost use mathlib.Core.Path.{_≡_};
-ghost use mathlib.Core.List.{List, [], _∷_};
-ghost use Prim.Native.Nat.{_≤_, _<_};
+ghost use mathlib.Core.List.{[], _∷_};
+ghost use Prim.Native.Nat.{_≤_};
 ghost use Rattle.reading.specs.Outcomes.{digit-value, digits-value, unsigned-reading, plain, negative, reading, Meant};
 ghost use Rattle.std.specs.Vec.{made};
 use crate::ReadingFault;
 
+// The value of one digit.
 fn digit(byte: u8) -> Result<u32, ReadingFault>
     ensures { λ r. ⌜ r ≡ digit-value byte ⌝ }
 {
@@ -15,6 +16,7 @@ fn digit(byte: u8) -> Result<u32, ReadingFault>
     }
 }
 
+// The number that five digits write.
 fn five_digits(a: u8, b: u8, c: u8, d: u8, e: u8) -> Result<u32, ReadingFault>
     ensures outcome { λ r. ⌜ r ≡ digits-value (a ∷ b ∷ c ∷ d ∷ e ∷ []) ⌝ }
     ensures bound { λ r. ⌜ made r (λ m. m ≤ 99_999) ⌝ }
@@ -35,6 +37,7 @@ fn unsigned(text: &[u8]) -> Result<u32, ReadingFault>
     }
 }
 
+// A text that does not begin with a minus.
 fn without_minus(text: &[u8]) -> Result<i32, ReadingFault>
     ensures { λ r. ⌜ r ≡ plain (unsigned-reading (now (text .entry))) ⌝ }
 {
@@ -52,8 +55,8 @@ fn after_minus(text: &[u8]) -> Result<i32, ReadingFault>
     Ok(-magnitude)
 }
 
-// The number that the text means, in thousandths.
-pub fn read(text: &[u8]) -> Result<i32, ReadingFault>
+// A reading with its sign.
+fn signed(text: &[u8]) -> Result<i32, ReadingFault>
     ensures outcome { λ r. ⌜ r ≡ reading (now (text .entry)) ⌝ }
     ensures meaning { λ r. ⌜ Meant (now (text .entry)) r ⌝ }
 {
@@ -61,4 +64,12 @@ pub fn read(text: &[u8]) -> Result<i32, ReadingFault>
         [b'-', rest @ ..] => after_minus(rest),
         _ => without_minus(text),
     }
+}
+
+// The number that the text means, in thousandths.
+pub fn read(text: &[u8]) -> Result<i32, ReadingFault>
+    ensures outcome { λ r. ⌜ r ≡ reading (now (text .entry)) ⌝ }
+    ensures meaning { λ r. ⌜ Meant (now (text .entry)) r ⌝ }
+{
+    signed(text)
 }

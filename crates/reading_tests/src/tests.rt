@@ -31,7 +31,7 @@ fn reads_and_writes() -> Result<(), Fail> {
         check(buffer.starts_with(text.as_bytes()))?;
         check(buffer.ends_with(left.as_bytes()))?;
     }
-    Ok(())
+    check_eq("-99.999".len(), LONGEST_TEXT)
 }
 
 #[test]
