@@ -1,0 +1,5 @@
+pub mod Places
+pub mod Scaling
+pub mod From
+pub mod Below
+pub mod Tested

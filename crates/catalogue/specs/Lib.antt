@@ -1,0 +1,5 @@
+pub mod Fair
+pub mod Refusals
+pub mod Changes
+pub mod Asked
+pub mod Members

@@ -1,0 +1,12 @@
+pub mod Links
+pub mod Firsts
+pub mod Rows
+pub mod Optimal
+pub mod Whole
+pub mod Ties
+pub mod RowFacts
+pub mod RowEntries
+pub mod Planned
+pub mod Examples
+pub mod Spellings
+pub mod Counting

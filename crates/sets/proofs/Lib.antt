@@ -1,0 +1,9 @@
+pub mod Bits
+pub mod Parts
+pub mod Masks
+pub mod Lowest
+pub mod Contraction
+pub mod Positions
+pub mod Loops
+pub mod Filling
+pub mod Order
