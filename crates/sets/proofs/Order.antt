@@ -12,7 +12,7 @@ use Rattle.sets.specs.Order.{Rows-in-order}
 use Rattle.sets.proofs.Bits.{part-le}
 use Rattle.sets.proofs.Contraction.{next-number}
 use Rattle.sets.proofs.Parts.{part-chain, one-le, without-part, tests-part, tests-rest, meet-part}
-use Rattle.sets.proofs.Positions.{before-none, before-all, place-lt, place-smaller, place-fewer, place-same, place-first, place-last, place-set}
+use Rattle.sets.proofs.Positions.{before-all, place-lt, place-smaller, place-fewer, place-same, place-start, place-first, place-last, place-set}
 
 -- a row with a given place
 Placed : (n T k : ℕ) → Type 0
@@ -20,7 +20,7 @@ Placed n T k = (R : ℕ) × (S : ℕ) × (R < 2 ^ n) × (S ⊆ tests-on T R) × 
 
 placed : (n T k : ℕ) → T < 2 ^ n → k < row-count n T → Placed n T k
 unfolding Placed
-placed n T zero h l = (0, 0, pow-pos n, refl, place-first T 0 ∙ before-none T)
+placed n T zero h l = (0, 0, pow-pos n, refl, place-start T)
 placed n T (suc k) h l = after (placed n T k h (omega arith))
   where
     after : Placed n T k → Placed n T (suc k)

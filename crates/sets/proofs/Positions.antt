@@ -125,6 +125,9 @@ place-same t q r u s p w e =
 pub place-first : (t r : ℕ) → place-of t r 0 ≡ before t r
 place-first t r = omega (arith, contracted-zero (tests-on t r))
 
+pub place-start : (t : ℕ) → place-of t 0 0 ≡ 0
+place-start t = place-first t 0 ∙ before-none t
+
 -- the row after the last of r is the first of the next set
 pub place-last : (t r : ℕ) → place-of t r (tests-on t r) + 1 ≡ before t (suc r)
 place-last t r = omega (arith, before-next t r, contracted-whole (tests-on t r))
@@ -153,3 +156,7 @@ pub place-end : (k t r s : ℕ) → t < 2 ^ k → r + 1 ≡ 2 ^ k → s ≡ test
 place-end k t r s h e f =
     let up : suc r ≡ 2 ^ k = omega arith in
     ap (λ (x : ℕ). place-of t r x + 1) f ∙ place-last t r ∙ ap (before t) up ∙ before-all k t h
+
+-- cells enough for the rows of n tables hold each of them
+pub place-held : (n t r s cells : ℕ) → t < 2 ^ n → row-count n t ≤ cells → r < 2 ^ n → place-of t r s < cells
+place-held n t r s cells h l lt = omega (arith, place-lt n t r s h lt)

@@ -6,7 +6,7 @@ use native.Mathlib.Omega.{arith}
 use Rattle.sets.specs.Rows.{place-of, tests-on, filled}
 use Rattle.sets.specs.Sets.{_⊆_}
 use Rattle.sets.proofs.Filling.{filled-more}
-use Rattle.sets.proofs.Positions.{before-none, place-first, place-end}
+use Rattle.sets.proofs.Positions.{place-start, place-end}
 use Rattle.sets.proofs.cells.fill_rows.Given as given
 use Rattle.sets.proofs.cells.fill_rows.Needs as need
 use Rattle.sets.proofs.cells.fill_rows.Needs.{After-put, at·loop-place-again, at·returns-in-rest}
@@ -15,7 +15,7 @@ pub loop-place-holds : need.loop-place-holds
 loop-place-holds g c =
     let t = c .args .tested .bits in
     let f = c .first-row .ensures in
-    (c .over-table .ensures .tested, refl, subst (λ (x : ℕ). x ⊆ tests-on t (c .first-row .result .tables .bits)) (sym (f .tests)) refl, ap₂ (place-of t) (f .tables) (f .tests) ∙ place-first t 0 ∙ before-none t, refl)
+    (c .over-table .ensures .tested, refl, subst (λ (x : ℕ). x ⊆ tests-on t (c .first-row .result .tables .bits)) (sym (f .tests)) refl, ap₂ (place-of t) (f .tables) (f .tests) ∙ place-start t, refl)
 
 -- the cell of the turn's row is written
 written : (g : given.Over) (c : After-put g) → c .put .last .self .cells .now ≡ filled (c .loop-place .place + 1) (c .args .value) (c .over-table .result .cells .now)
