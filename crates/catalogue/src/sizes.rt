@@ -3,7 +3,7 @@ ghost use Prim.Native.Nat.{ℕ, _+_, _*_, _^_, _<_, _≤_, min};
 ghost use mathlib.Core.Path.{_≡_};
 ghost use Rattle.catalogue.specs.Asked.{asked};
 ghost use Rattle.catalogue.specs.Members.{from, tied-rows as tied-rows-of};
-ghost use Rattle.plans.specs.Questions.{across as across-of, base as base-of, linked as linked-by, narrowed as narrowed-by, size as size-of-set, tie-of, up};
+ghost use Rattle.plans.specs.Questions.{across as across-of, base as base-of, charged as charged-for, linked as linked-by, narrowed as narrowed-by, size as size-of-set, tie-of, up};
 use crate::Catalogue;
 use crate::MOST_ROWS;
 use sets::SmallSet;
@@ -84,5 +84,12 @@ impl Catalogue {
             }
         }
         size
+    }
+
+    // The rows that a test is charged for where it is put to the tables under the tests.
+    pub fn charged(&self, test: u8, tables: SmallSet, tests: SmallSet) -> u32
+        ensures { λ r. ⌜ r ≡ charged-for (asked (now (self .entry))) test (tables .bits) (tests .bits) ⌝ }
+    {
+        self.size(tables, tests)
     }
 }

@@ -9,6 +9,7 @@ mod entries;
 mod predicates;
 
 pub use entries::Entry;
+pub use entries::EntryClone;
 pub use predicates::Test;
 pub use predicates::Tie;
 

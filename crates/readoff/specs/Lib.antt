@@ -1,0 +1,4 @@
+pub mod Leads
+pub mod Choices
+pub mod Written
+pub mod Statement

@@ -1,0 +1,9 @@
+pub mod Splitting
+pub mod Holding
+pub mod TriesMade
+pub mod Undercut
+pub mod Nth
+pub mod Steps
+pub mod Summing
+pub mod Turns
+pub mod Wholes
