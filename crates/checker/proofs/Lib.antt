@@ -1,0 +1,10 @@
+pub mod Pairs
+pub mod Sound
+pub mod Complete
+pub mod Stacks
+pub mod Takes
+pub mod Turns
+pub mod Whole
+pub mod Singles
+pub mod Last
+pub mod Storing

@@ -1,0 +1,5 @@
+pub mod Refusals
+pub mod Checks
+pub mod Steps
+pub mod Taken
+pub mod Stored
