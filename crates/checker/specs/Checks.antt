@@ -11,7 +11,7 @@ use Rattle.std.specs.declared.option.Option.the-variants.{Some, None}
 use Rattle.std.specs.declared.result.Result.{Result}
 use Rattle.std.specs.declared.result.Result.the-variants.{Ok, Err}
 use Rattle.pricing.specs.Models.{Model}
-use Rattle.plans.specs.Questions.{Question}
+use Rattle.plans.specs.Questions.{Question, table-of}
 use Rattle.plans.specs.Plans.{Plan, Answers}
 use Rattle.plans.specs.Prices.{price, last-above}
 use Rattle.plans.specs.Spelling.{spelled}
@@ -21,7 +21,7 @@ use Rattle.checker.specs.declared.refusals.CheckRefusal.the-variants.{ListTooS
 -- A pair names a given table, the given test of a given table, or a join.
 abbrev pub named : Question → (a b : ℕ) → Bool
 named Q a b =
-    cond (eqb a 0x10) (ltb b (Q .count)) (cond (eqb a 0x11) (ltb b (Q .count) && isSome (Q .test b)) (eqb a 0x12 && eqb b 0))
+    cond (eqb a 0x10) (ltb b (Q .count)) (cond (eqb a 0x11) (ltb (table-of Q b) (Q .count) && isSome (Q .test b)) (eqb a 0x12 && eqb b 0))
 
 -- The bytes are pairs, and each pair names something.
 unfoldable pub named-pairs : Question → (bytes : List ℕ) → Bool

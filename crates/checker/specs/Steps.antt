@@ -23,13 +23,13 @@ abbrev pub provided : Bool → List Plan → Option (List Plan)
 provided true parts = Some parts
 provided false parts = None
 
--- A given table that stands in no part yet; ..
-abbrev pub more-table : Question → (i : ℕ) → List Plan → Option (List Plan)
-more-table Q i parts = provided (ltb i (Q .count) && not (has (tables-in parts) i)) (bare i ∷ parts)
-
 -- Whether test i is given and may be made on a part with the tables R and the tests S: its table is one of R, and it is none of S.
 abbrev pub testable : Question → (i R S : ℕ) → Bool
 testable Q i R S = isSome (Q .test i) && (has R (table-of Q i) && not (has S i))
+
+-- What may follow the parts: a given table that stands in none of them; ..
+abbrev pub more-table : Question → (i : ℕ) → List Plan → Option (List Plan)
+more-table Q i parts = provided (ltb i (Q .count) && not (has (tables-in parts) i)) (bare i ∷ parts)
 
 -- .. a test on the newest part; ..
 abbrev pub more-test : Question → (i : ℕ) → List Plan → Option (List Plan)

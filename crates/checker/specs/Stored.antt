@@ -16,10 +16,11 @@ use Rattle.checker.specs.declared.operations.Operation.{Operation}
 use Rattle.checker.specs.declared.operations.Operation.the-variants.{Table, Test, Join}
 use Rattle.checker.specs.Checks.{price-or}
 
+-- The size of a row's tables under its tests.
 abbrev pub row-size : Question → Row → ℕ
 row-size Q row = size Q (row .tables .bits) (row .tests .bits)
 
--- From the prices of what it is made of: the input of a test, the left and the right side of a join.
+-- An operation's price from the prices of what it is made of: the input of a test, the left and the right side of a join.
 abbrev pub price-from : {P : Type 0} → Model P → Question → Operation → (input right : P) → P
 price-from m Q (Table row) input right = m .bare (row-size Q row)
 price-from m Q (Test i row) input right =
@@ -38,5 +39,6 @@ unfoldable pub last-in : (k : ℕ) → List Plan → Option Plan
 last-in k [] = None
 last-in k (p ∷ parts) = elim (leb (length parts) k) [ true ↦ or-else (last-above (k - length parts) p) (last-in k parts) | false ↦ last-in k parts ]
 
+-- Entry k holds that operation's price; all other entries are as before.
 abbrev pub Stored : {P : Type 0} → Model P → Question → List Plan → (before after : List P) → Type 0
 Stored {P} m Q parts before after = (k : ℕ) (d : P) → getD after k d ≡ price-or m Q (last-in k parts) (getD before k d)

@@ -22,6 +22,7 @@ unfoldable pub Stacked : (rows : List Row) → List Plan → Type 0
 Stacked rows [] = Unit {0}
 Stacked rows (p ∷ parts) = ((d : Row) → Shows (getD rows (length parts) d) p) × Stacked rows parts
 
+-- The code's parts are these.
 pub record Holds (Q : Question) (held : Parts) (parts : List Plan) : Type 0 where
   pub stacked : Stacked (held .rows) parts
   pub depth : held .depth ≡ length parts

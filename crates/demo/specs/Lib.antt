@@ -1,3 +1,1 @@
-pub mod Costs
-pub mod Orders
-pub mod Shares
+pub mod Sample

@@ -1,110 +1,133 @@
-// A bench sheet: what corrections of a test's cost do to the order of a question, under both price models.
-mod costs;
-mod orders;
-mod question;
+// A bench sheet: what corrections of a test's cost do to the plan of a question, under both price models.
+mod planning;
+mod sample;
 
-use costs::corrected;
-use orders::OrderDisplay;
-use orders::preferred;
-use orders::price_join_first;
-use orders::price_test_first;
+use catalogue::Catalogue;
+use checker::check;
+use planning::ROWS;
+use planning::planned;
 use pricing::Clock;
 use pricing::ClockPrices;
 use pricing::FetchesFirst;
 use pricing::FetchesFirstPrices;
-use pricing::Kind;
-use question::Question;
-use question::Share;
+use pricing::PriceModel;
 use reading::read;
+use sample::BY_NUMBER;
+use sample::CORRECTED;
+use sample::sample;
 use std::error::AnyError;
 use std::io;
 
-// A hundred films on ten reels; the gripper fetches a film to test it.
-const SAMPLE: Question = Question {
-    films: 100,
-    reels: 10,
-    tie: Share { p: 1, q: 100 },
-    tie_cost: 60,
-    test: Share { p: 1, q: 2 },
-    test_cost: 350,
-    kind: Kind::Fetch,
-};
-
-// The prices of both orders under both models, and the order that each prefers.
-fn show(rt: &LibcRuntime, question: &Question) -> io::Result<()> {
-    let test = price_test_first(&Clock, question);
-    let join = price_join_first(&Clock, question);
-    let order = preferred(&Clock, question);
-    println!(
-        rt,
-        "  Clock: test first costs {test} ms, join first {join} ms; it {order}"
-    )?;
-    let test = price_test_first(&FetchesFirst, question);
-    let join = price_join_first(&FetchesFirst, question);
-    let order = preferred(&FetchesFirst, question);
-    let (test_fetches, test_ms) = (test.fetches, test.ms);
-    let (join_fetches, join_ms) = (join.fetches, join.ms);
-    println!(
-        rt,
-        "  Fetches first: test first costs {test_fetches} fetches and {test_ms} ms, join first {join_fetches} fetches and {join_ms} ms; it {order}"
-    )
+// The operations of a plan, each after what it works on.
+fn print_plan(rt: &LibcRuntime, bytes: &[u8], len: usize) -> io::Result<()> {
+    let told = &bytes[..len.min(bytes.len())];
+    print!(rt, "   ")?;
+    for pair in told.chunks_exact(2) {
+        let number = pair[1];
+        match pair[0] {
+            0x10 => print!(rt, " table {number},")?,
+            0x11 => print!(rt, " test {number},")?,
+            _ => print!(rt, " join,")?,
+        }
+    }
+    println!(rt, " done")
 }
 
-// One line of the sheet, in words: the question after the correction, or as it was where the line is refused.
-fn correct(rt: &LibcRuntime, question: Question, number: u32, text: &str) -> io::Result<Question> {
+// The cheapest plan by the clock.
+fn print_by_clock(rt: &LibcRuntime, question: &Catalogue) -> io::Result<()> {
+    let mut prices = [Clock.bare(0); ROWS];
+    match planned(&Clock, question, &mut prices) {
+        Ok(found) => {
+            let (price, tries) = (found.price, found.tries);
+            println!(rt, "  Clock: {price} ms, found in {tries} tries")?;
+            print_plan(rt, &found.bytes, found.len)
+        }
+        Err(refusal) => {
+            let number = refusal.number();
+            println!(rt, "  Clock: no plan (refusal {number})")
+        }
+    }
+}
+
+// The cheapest plan by fetches and then by the clock.
+fn print_by_fetches(rt: &LibcRuntime, question: &Catalogue) -> io::Result<()> {
+    let mut prices = [FetchesFirst.bare(0); ROWS];
+    match planned(&FetchesFirst, question, &mut prices) {
+        Ok(found) => {
+            let (fetches, ms, tries) = (found.price.fetches, found.price.ms, found.tries);
+            println!(
+                rt,
+                "  Fetches first: {fetches} fetches and {ms} ms, found in {tries} tries"
+            )?;
+            print_plan(rt, &found.bytes, found.len)
+        }
+        Err(refusal) => {
+            let number = refusal.number();
+            println!(rt, "  Fetches first: no plan (refusal {number})")
+        }
+    }
+}
+
+// What the plan that follows the tables' numbers would cost by the clock.
+fn print_by_number(rt: &LibcRuntime, question: &Catalogue) -> io::Result<()> {
+    let mut prices = [0; 10];
+    match check(&Clock, question, &BY_NUMBER, &mut prices) {
+        Ok(price) => println!(rt, "  tests first and joins by number: {price} ms"),
+        Err(refusal) => {
+            let number = refusal.number();
+            println!(
+                rt,
+                "  tests first and joins by number: no plan (refusal {number})"
+            )
+        }
+    }
+}
+
+// The cheapest plans, and one that is not.
+fn print_plans(rt: &LibcRuntime, question: &Catalogue) -> io::Result<()> {
+    print_by_clock(rt, question)?;
+    print_by_fetches(rt, question)?;
+    print_by_number(rt, question)
+}
+
+// One line of the sheet: corrects the question, or says why not and leaves it as it was.
+fn correct(rt: &LibcRuntime, question: &mut Catalogue, number: u32, text: &str) -> io::Result<()> {
     let by = match read(text.as_bytes()) {
         Ok(by) => by,
         Err(fault) => {
             let refusal = fault.number();
-            println!(
+            return println!(
                 rt,
                 "line {number}: '{text}' is no reading (refusal {refusal})"
-            )?;
-            return Ok(question);
+            );
         }
     };
-    let Some(cost) = corrected(question.test_cost, by) else {
-        println!(
-            rt,
-            "line {number}: {text} would take the cost out of 0 to 65535 ms"
-        )?;
-        return Ok(question);
-    };
-    println!(rt, "line {number}: corrected by {text} s, {cost} ms a row")?;
-    let after = Question {
-        test_cost: cost,
-        ..question
-    };
-    show(rt, &after)?;
-    Ok(after)
-}
-
-// The question in words.
-fn introduce(rt: &LibcRuntime, question: &Question) -> io::Result<()> {
-    let (films, reels) = (question.films, question.reels);
-    let (tie, tie_cost) = (question.tie, question.tie_cost);
-    let (tie_p, tie_q) = (tie.p, tie.q);
+    if let Err(refusal) = question.correct(CORRECTED, by) {
+        let refusal = refusal.number();
+        return println!(rt, "line {number}: {text} is refused (refusal {refusal})");
+    }
     println!(
         rt,
-        "{films} films on {reels} reels, tied at {tie_p}/{tie_q} and {tie_cost} ms a pair"
+        "line {number}: the cost of test {CORRECTED} corrected by {text} s"
     )?;
-    let (test, test_cost) = (question.test, question.test_cost);
-    let (test_p, test_q) = (test.p, test.q);
-    println!(
-        rt,
-        "a test that sends the gripper for each film keeps {test_p}/{test_q}, at {test_cost} ms a row"
-    )
+    print_plans(rt, question)
 }
 
 // Standard input is a bench sheet, a reading a line, in seconds: each corrects the cost that the lines above it left.
 fn main(rt: LibcRuntime) -> Result<(), AnyError> {
-    let mut question = SAMPLE;
-    introduce(&rt, &question)?;
-    show(&rt, &question)?;
+    let mut question = match sample() {
+        Ok(question) => question,
+        Err(_) => return Ok(()),
+    };
+    println!(
+        rt,
+        "tables: 0 of 100 films, 1 of 10 reels, 2 of 8 cartridges, 3 of 3 shelves; test 0 fetches a film, test 2 looks a cartridge up"
+    )?;
+    print_plans(&rt, &question)?;
     let mut number = 0u32;
     for line in rt.lines(rt.alloc()) {
         number = number.saturating_add(1);
-        question = correct(&rt, question, number, line?.as_str())?;
+        correct(&rt, &mut question, number, line?.as_str())?;
     }
     Ok(())
 }
