@@ -18,15 +18,25 @@ use sample::sample;
 use std::error::AnyError;
 use std::io;
 
+// A table in words.
+fn table_name(table: u8) -> &'static str {
+    match table {
+        0 => "films",
+        1 => "reels",
+        2 => "cartridges",
+        _ => "shelves",
+    }
+}
+
 // The operations of a plan, each after what it works on.
 fn print_plan(rt: &LibcRuntime, bytes: &[u8], len: usize) -> io::Result<()> {
     let told = &bytes[..len.min(bytes.len())];
     print!(rt, "   ")?;
     for pair in told.chunks_exact(2) {
-        let number = pair[1];
+        let name = table_name(pair[1]);
         match pair[0] {
-            0x10 => print!(rt, " table {number},")?,
-            0x11 => print!(rt, " test {number},")?,
+            0x10 => print!(rt, " {name},")?,
+            0x11 => print!(rt, " test the {name},")?,
             _ => print!(rt, " join,")?,
         }
     }
@@ -90,6 +100,17 @@ fn print_plans(rt: &LibcRuntime, question: &Catalogue) -> io::Result<()> {
     print_by_number(rt, question)
 }
 
+// The cost of the test that the sheet corrects.
+fn print_cost(rt: &LibcRuntime, question: &Catalogue) -> io::Result<()> {
+    match question.test_of(CORRECTED) {
+        Some(test) => {
+            let (name, cost) = (table_name(CORRECTED), test.cost);
+            println!(rt, "testing the {name} costs {cost} ms a row")
+        }
+        None => Ok(()),
+    }
+}
+
 // One line of the sheet: corrects the question, or says why not and leaves it as it was.
 fn correct(rt: &LibcRuntime, question: &mut Catalogue, number: u32, text: &str) -> io::Result<()> {
     let by = match read(text.as_bytes()) {
@@ -106,10 +127,8 @@ fn correct(rt: &LibcRuntime, question: &mut Catalogue, number: u32, text: &str) 
         let refusal = refusal.number();
         return println!(rt, "line {number}: {text} is refused (refusal {refusal})");
     }
-    println!(
-        rt,
-        "line {number}: the cost of test {CORRECTED} corrected by {text} s"
-    )?;
+    print!(rt, "line {number}: corrected by {text} s, ")?;
+    print_cost(rt, question)?;
     print_plans(rt, question)
 }
 
@@ -119,10 +138,11 @@ fn main(rt: LibcRuntime) -> Result<(), AnyError> {
         Ok(question) => question,
         Err(_) => return Ok(()),
     };
-    println!(
-        rt,
-        "tables: 0 of 100 films, 1 of 10 reels, 2 of 8 cartridges, 3 of 3 shelves; test 0 fetches a film, test 2 looks a cartridge up"
-    )?;
+    for table in 0..question.count() {
+        let (rows, name) = (question.rows_of(table), table_name(table));
+        println!(&rt, "{rows} {name}")?;
+    }
+    print_cost(&rt, &question)?;
     print_plans(&rt, &question)?;
     let mut number = 0u32;
     for line in rt.lines(rt.alloc()) {
