@@ -4,6 +4,7 @@ mod changes;
 mod links;
 mod refusals;
 mod sizes;
+mod tables;
 
 pub use catalogues::Catalogue;
 pub use changes::MOST_ROWS;

@@ -106,24 +106,6 @@ impl Catalogue {
         found
     }
 
-    // How many tables there are.
-    pub fn count(&self) -> u8
-        ensures value { λ r. ⌜ r ≡ asked (now (self .entry)) .count ⌝ }
-        ensures few { λ r. ⌜ r ≤ 10 ⌝ }
-    {
-        self.count
-    }
-
-    // The rows of a table, 0 where it is not given.
-    pub fn rows_of(&self, table: u8) -> u32
-        ensures { λ r. ⌜ (table < 10 → r ≡ asked (now (self .entry)) .rows table) ⌝ }
-    {
-        if table >= 10 {
-            return 0;
-        }
-        self.rows[table as usize]
-    }
-
     // All tables.
     pub fn tables(&self) -> SmallSet
         ensures { λ r. ⌜ r .bits ≡ all-tables (asked (now (self .entry))) ⌝ }

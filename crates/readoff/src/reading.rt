@@ -18,7 +18,12 @@ const TEST: u8 = 0x11;
 const JOIN: u8 = 0x12;
 
 // Writes the plan of the row from the front of the buffer on, and answers where it ends.
-pub fn read_row(choices: &[u16], tested: SmallSet, row: Row, buffer: &mut [u8]) -> Option<usize>
+pub(crate) fn read_row(
+    choices: &[u16],
+    tested: SmallSet,
+    row: Row,
+    buffer: &mut [u8],
+) -> Option<usize>
     ensures { λ r. ⌜ Read-off (choice-in (now (choices .entry)) (tested .bits)) (row .tables .bits) (row .tests .bits) (now (buffer .entry)) (now (buffer .exit)) r ⌝ }
 {
     emit(choices, tested, row, buffer, 0)
