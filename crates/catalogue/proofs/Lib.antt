@@ -3,7 +3,3 @@ pub mod Scaling
 pub mod From
 pub mod Below
 pub mod Tested
-pub mod Near
-pub mod Inside
-pub mod Cutting
-pub mod Agreeing

@@ -1,5 +1,5 @@
 -- The question after table, tie, test or correct, or the refusal, the causes from the top down.
-use Rattle.std.specs.Prelude.{◌≡◌, ℕ, ◌+◌, min, max, Bool, true, false, cond, ◌&&◌, ◌||◌, ℤ, pos, negsuc, ◌+ℤ◌, is_some, Some, None, Ok, Err, Option, Result, ◌==◌, nat_le, nat_lt}
+use Rattle.std.specs.Prelude.{◌≡◌, ℕ, ◌+◌, Bool, true, false, cond, ◌&&◌, ◌||◌, ℤ, pos, negsuc, ◌+ℤ◌, is_some, Some, None, Ok, Err, Option, Result, ◌==◌, nat_le, nat_lt}
 use Rattle.pricing.specs.Kinds.{kind_of}
 use Rattle.pricing.specs.declared.kinds.Kind.{Kind}
 use Rattle.plans.specs.Questions.{Question, tie_of, ceiling}
@@ -16,7 +16,7 @@ abbrev pub with_table : Question → (rows : ℕ) → Question
 with_table Q n = record { count = Q.count + 1; rows = λ i. cond (i == Q.count) n (Q.rows i); tie = Q.tie; test = Q.test }
 
 abbrev pub with_tie : Question → (table other : ℕ) → Tie → Question
-with_tie Q a b t = record { count = Q.count; rows = Q.rows; tie = λ i j. cond (i == min a b && j == max a b) (Some t) (Q.tie i j); test = Q.test }
+with_tie Q a b t = record { count = Q.count; rows = Q.rows; tie = λ i j. cond (i == a && j == b) (Some t) (Q.tie i j); test = Q.test }
 
 abbrev pub with_test : Question → (table : ℕ) → Test → Question
 with_test Q a t = record { count = Q.count; rows = Q.rows; tie = Q.tie; test = λ i. cond (i == a) (Some t) (Q.test i) }

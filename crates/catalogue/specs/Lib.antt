@@ -3,4 +3,3 @@ pub mod Refusals
 pub mod Changes
 pub mod Asked
 pub mod Members
-pub mod Within

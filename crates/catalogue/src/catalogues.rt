@@ -1,11 +1,10 @@
 // The plain record of a question's tables, ties and tests.
-ghost use Rattle.std.specs.Prelude.{◌≡◌, ℕ, ◌+◌, ◌*◌, ◌<◌, ◌≤◌, length, None, slice_index, slice_index_or};
+ghost use Rattle.std.specs.Prelude.{◌≡◌, ℕ, ◌≤◌, length, None, slice_index, slice_index_or};
 ghost use Rattle.catalogue.specs.Fair.{tie_p, tie_q, test_p, test_q};
 
 use plans::{Test, Tie};
 
-// Tables are numbered from 0. The tie of two tables stands at 10 × the lower + the higher, and test i on table i.
-// No tie or test is on a table that was not given, and no table is tied to itself.
+// Tables are numbered from 0. The tie of tables i and j stands at 10 i + j as it was given, and test i on table i.
 #[derive(Clone, Copy)]
 pub struct Catalogue {
     pub(crate) count: u8,
@@ -21,8 +20,4 @@ pub struct Catalogue {
     ghost tie_part: { ((k : ℕ) → tie_p (slice_index_or ties k None) ≤ tie_q (slice_index_or ties k None)) },
     ghost test_whole: { ((i : ℕ) → 1 ≤ test_q (slice_index_or tests i None)) },
     ghost test_part: { ((i : ℕ) → test_p (slice_index_or tests i None) ≤ test_q (slice_index_or tests i None)) },
-    ghost tie_order: { ((i j : ℕ) → j < 10 → j ≤ i → slice_index_or ties (i * 10 + j) None ≡ None) },
-    ghost tie_low: { ((i j : ℕ) → j < 10 → count ≤ i → slice_index_or ties (i * 10 + j) None ≡ None) },
-    ghost tie_high: { ((i j : ℕ) → j < 10 → count ≤ j → slice_index_or ties (i * 10 + j) None ≡ None) },
-    ghost test_given: { ((i : ℕ) → count ≤ i → slice_index_or tests i None ≡ None) },
 }

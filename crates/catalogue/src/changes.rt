@@ -42,23 +42,26 @@ impl Catalogue {
         Ok(number)
     }
 
-    // The tie of two tables, the lower one named first.
-    fn given_tie(&self, low: u8, high: u8) -> Option<Tie>
-        ensures value { result ≡ (asked self.now).tie low high }
+    // The tie that was given from one table to another.
+    fn given_tie(&self, table: u8, other: u8) -> Option<Tie>
+        ensures value { result ≡ (asked self.now).tie table other }
         ensures fair { (1 ≤ tie_q result) × (tie_p result ≤ tie_q result) }
     {
-        if low >= 10 || high >= 10 {
+        if table >= 10 || other >= 10 {
             return None;
         }
-        self.ties[low as usize * 10 + high as usize]
+        self.ties[table as usize * 10 + other as usize]
     }
 
-    // The tie of two tables, whichever way round they are named.
+    // The tie of two tables, whichever way round it was given.
     pub fn tie_of(&self, table: u8, other: u8) -> Option<Tie>
         ensures value { result ≡ tie_of (asked self.now) table other }
         ensures fair { (1 ≤ tie_q result) × (tie_p result ≤ tie_q result) }
     {
-        self.given_tie(table.min(other), table.max(other))
+        match self.given_tie(table, other) {
+            Some(tie) => Some(tie),
+            None => self.given_tie(other, table),
+        }
     }
 
     // The test that stands at a table's number.
@@ -103,8 +106,7 @@ impl Catalogue {
         if self.tie_of(table, other).is_some() {
             return Err(ChangeRefusal::AlreadyTied);
         }
-        let (low, high) = (table.min(other), table.max(other));
-        self.ties[low as usize * 10 + high as usize] = Some(Tie { p, q, cost });
+        self.ties[table as usize * 10 + other as usize] = Some(Tie { p, q, cost });
         Ok(())
     }
 

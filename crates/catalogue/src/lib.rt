@@ -1,8 +1,6 @@
 // A question's tables, ties and tests, and the four calls that change them.
 mod catalogues;
 mod changes;
-mod cuts;
-mod known_sizes;
 mod links;
 mod refusals;
 mod sizes;
@@ -10,5 +8,4 @@ mod tables;
 
 pub use catalogues::Catalogue;
 pub use changes::MOST_ROWS;
-pub use cuts::Cuts;
 pub use refusals::ChangeRefusal;

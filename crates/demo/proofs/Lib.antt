@@ -1,1 +1,1 @@
-pub mod Sampled
+pub mod Accepted

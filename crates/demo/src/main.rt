@@ -1,114 +1,94 @@
 // A bench sheet: what corrections of a test's cost do to the plan of a question, under both price models.
 mod planning;
 mod sample;
-mod trees;
-mod words;
 
 use catalogue::Catalogue;
-use planner::{Question, Reply};
-use planning::plan;
-use pricing::{Clock, FetchPrice, FetchesFirst, PriceModel};
+use checker::check;
+use planning::{ROWS, planned};
+use pricing::{Clock, FetchesFirst, PriceModel};
 use reading::read;
-use sample::{BY_NUMBER, CORRECTED, ROWS, planned};
-use sets::Row;
+use sample::{BY_NUMBER, CORRECTED, sample};
 use std::io;
-use trees::{Solved, print_tree};
-use words::{Worded, table_name};
 
-// The bytes of a plan, in hexadecimal.
-fn print_bytes(rt: &HostRuntime, bytes: &[u8], len: usize) -> io::Result<()> {
-    print!(rt; "  told as")?;
-    for byte in &bytes[0..len.min(bytes.len())] {
-        print!(rt; " {byte:02X}")?;
+// A table in words.
+fn table_name(table: u8) -> &'static str {
+    match table {
+        0 => "films",
+        1 => "reels",
+        2 => "cartridges",
+        _ => "shelves",
     }
-    println!(rt; "")
 }
 
-// What the plan that follows the tables' numbers would cost.
-fn print_by_number<M: Worded>(
-    rt: &HostRuntime,
-    model: &M,
-    question: &Question<M>,
-    prices: &mut [M::Price],
-) -> io::Result<()> {
-    print!(rt; "  tests first and joins by number: ")?;
-    match question.check(&BY_NUMBER, prices) {
-        Ok(price) => model.print_price(rt, price)?,
-        Err(refusal) => {
-            let number = refusal.number();
-            print!(rt; "no plan (refusal {number})")?
+// The operations of a plan, each after what it works on.
+fn print_plan(rt: &HostRuntime, bytes: &[u8], len: usize) -> io::Result<()> {
+    let told = &bytes[..len.min(bytes.len())];
+    print!(rt; "   ")?;
+    for pair in told.chunks_exact(2) {
+        let name = table_name(pair[1]);
+        match pair[0] {
+            0x10 => print!(rt; " {name},")?,
+            0x11 => print!(rt; " test the {name},")?,
+            _ => print!(rt; " join,")?,
         }
     }
-    println!(rt; "")
+    println!(rt; " done")
 }
 
-// The cheapest plan as a tree and in bytes, and another plan beside it.
-fn print_plan<M: Worded>(
-    rt: &HostRuntime,
-    model: &M,
-    question: &mut Question<M>,
-    prices: &mut [M::Price],
-) -> io::Result<()> {
-    let mut sizes = [0; ROWS];
-    let mut choices = [0; ROWS];
-    let mut bytes = [0; 58];
-    let title = model.title();
-    match plan(question, prices, &mut sizes, &mut choices, &mut bytes) {
-        Ok(told) => {
-            let (tries, len) = (told.tries, told.len);
-            print!(rt; "  {title}: ")?;
-            model.print_price(rt, told.price)?;
-            println!(rt; ", found in {tries} tries")?;
-            let row = Row {
-                tables: question.catalogue().tables(),
-                tests: question.catalogue().tests(),
-            };
-            let solved = Solved {
-                prices,
-                sizes: &sizes,
-                choices: &choices,
-                tested: row.tests,
-            };
-            print_tree(rt, model, &solved, row, 2)?;
-            print_bytes(rt, &bytes, len)?;
+// The cheapest plan by the clock.
+fn print_by_clock(rt: &HostRuntime, question: &Catalogue) -> io::Result<()> {
+    let mut prices = [Clock.bare(0); ROWS];
+    match planned(&Clock, question, &mut prices) {
+        Ok(found) => {
+            let (price, tries) = (found.price, found.tries);
+            println!(rt; "  Clock: {price} ms, found in {tries} tries")?;
+            print_plan(rt, &found.bytes, found.len)
         }
         Err(refusal) => {
             let number = refusal.number();
-            println!(rt; "  {title}: no plan (refusal {number})")?;
+            println!(rt; "  Clock: no plan (refusal {number})")
         }
     }
-    print_by_number(rt, model, question, prices)
 }
 
-// Whether a plan stands.
-fn print_standing<M: Worded>(
-    rt: &HostRuntime,
-    model: &M,
-    question: &Question<M>,
-) -> io::Result<()> {
-    let title = model.title();
-    let mut bytes = [0; 58];
-    match question.tell(&mut bytes) {
-        Ok(_) => println!(rt; "  {title}: a plan stands"),
+// The cheapest plan by fetches and then by the clock.
+fn print_by_fetches(rt: &HostRuntime, question: &Catalogue) -> io::Result<()> {
+    let mut prices = [FetchesFirst.bare(0); ROWS];
+    match planned(&FetchesFirst, question, &mut prices) {
+        Ok(found) => {
+            let (fetches, ms, tries) = (found.price.fetches, found.price.ms, found.tries);
+            println!(rt; "  Fetches first: {fetches} fetches and {ms} ms, found in {tries} tries")?;
+            print_plan(rt, &found.bytes, found.len)
+        }
         Err(refusal) => {
             let number = refusal.number();
-            println!(rt; "  {title}: no plan stands until it is solved again (refusal {number})")
+            println!(rt; "  Fetches first: no plan (refusal {number})")
         }
     }
 }
 
-// How many rows each table has.
-fn print_tables(rt: &HostRuntime, catalogue: &Catalogue) -> io::Result<()> {
-    for table in 0..catalogue.count() {
-        let (rows, name) = (catalogue.rows_of(table), table_name(table));
-        println!(rt; "{rows} {name}")?;
+// What the plan that follows the tables' numbers would cost by the clock.
+fn print_by_number(rt: &HostRuntime, question: &Catalogue) -> io::Result<()> {
+    let mut prices = [0; 10];
+    match check(&Clock, question, &BY_NUMBER, &mut prices) {
+        Ok(price) => println!(rt; "  tests first and joins by number: {price} ms"),
+        Err(refusal) => {
+            let number = refusal.number();
+            println!(rt; "  tests first and joins by number: no plan (refusal {number})")
+        }
     }
-    Ok(())
+}
+
+// The cheapest plans, and one that is not.
+fn print_plans(rt: &HostRuntime, question: &Catalogue) -> io::Result<()> {
+    print_by_clock(rt, question)?;
+    print_by_fetches(rt, question)?;
+    print_by_number(rt, question)
 }
 
 // The cost of the test that the sheet corrects.
-fn print_cost<M: PriceModel>(rt: &HostRuntime, question: &Question<M>) -> io::Result<()> {
-    match question.catalogue().test_of(CORRECTED) {
+fn print_cost(rt: &HostRuntime, question: &Catalogue) -> io::Result<()> {
+    match question.test_of(CORRECTED) {
         Some(test) => {
             let (name, cost) = (table_name(CORRECTED), test.cost);
             println!(rt; "testing the {name} costs {cost} ms a row")
@@ -117,92 +97,40 @@ fn print_cost<M: PriceModel>(rt: &HostRuntime, question: &Question<M>) -> io::Re
     }
 }
 
-// Corrects the question and says what then stands, or why it is left as it was.
-fn correct<M: Worded>(
-    rt: &HostRuntime,
-    model: &M,
-    question: &mut Question<M>,
-    by: i32,
-) -> io::Result<bool> {
-    if let Err(refusal) = question.correct(CORRECTED, by) {
-        let (title, number) = (model.title(), refusal.number());
-        println!(rt; "  {title}: the correction is refused (refusal {number})")?;
-        return Ok(false);
-    }
-    print_standing(rt, model, question)?;
-    Ok(true)
-}
-
-// One line of the sheet.
-fn read_line(rt: &HostRuntime, number: u32, text: &str) -> io::Result<Option<i32>> {
-    match read(text.as_bytes()) {
-        Ok(by) => {
-            println!(rt; "line {number}: a correction by {text} s")?;
-            Ok(Some(by))
-        }
+// One line of the sheet: corrects the question, or says why not and leaves it as it was.
+fn correct(rt: &HostRuntime, question: &mut Catalogue, number: u32, text: &str) -> io::Result<()> {
+    let by = match read(text.as_bytes()) {
+        Ok(by) => by,
         Err(fault) => {
             let refusal = fault.number();
-            println!(rt; "line {number}: '{text}' is no reading (refusal {refusal})")?;
-            Ok(None)
+            return println!(rt; "line {number}: '{text}' is no reading (refusal {refusal})");
         }
+    };
+    if let Err(refusal) = question.correct(CORRECTED, by) {
+        let refusal = refusal.number();
+        return println!(rt; "line {number}: {text} is refused (refusal {refusal})");
     }
+    print!(rt; "line {number}: corrected by {text} s, ")?;
+    print_cost(rt, question)?;
+    print_plans(rt, question)
 }
 
 // Standard input is a bench sheet, a reading a line, in seconds: each corrects the cost that the lines above it left.
-fn read_sheet(
-    rt: &HostRuntime,
-    clock: &mut Question<Clock>,
-    clock_prices: &mut [u64],
-    fetches: &mut Question<FetchesFirst>,
-    fetch_prices: &mut [FetchPrice],
-) -> anyhow::Result<()> {
+fn main(rt: HostRuntime) -> anyhow::Result<()> {
+    let mut question = match sample() {
+        Ok(question) => question,
+        Err(_) => return Ok(()),
+    };
+    for table in 0..question.count() {
+        let (rows, name) = (question.rows_of(table), table_name(table));
+        println!(&rt; "{rows} {name}")?;
+    }
+    print_cost(&rt, &question)?;
+    print_plans(&rt, &question)?;
     let mut number = 0u32;
     for line in rt.lines(rt.alloc()) {
         number = number.saturating_add(1);
-        let line = line?;
-        if let Some(by) = read_line(rt, number, line.as_str())? {
-            let by_clock = correct(rt, &Clock, clock, by)?;
-            let by_fetches = correct(rt, &FetchesFirst, fetches, by)?;
-            if by_clock && by_fetches {
-                print_cost(rt, clock)?;
-                print_plan(rt, &Clock, clock, clock_prices)?;
-                print_plan(rt, &FetchesFirst, fetches, fetch_prices)?;
-            }
-        }
+        correct(&rt, &mut question, number, line?.as_str())?;
     }
     Ok(())
-}
-
-fn main(rt: HostRuntime) -> anyhow::Result<()> {
-    let mut sizes = [0; ROWS];
-    let mut choices = [0; ROWS];
-    let mut clock_prices = [Clock.bare(0); ROWS];
-    let mut clock_replies = [Reply::Done; 11];
-    let mut clock = planned(
-        Clock,
-        &mut clock_prices,
-        &mut sizes,
-        &mut choices,
-        &mut clock_replies,
-    );
-    let mut fetch_prices = [FetchesFirst.bare(0); ROWS];
-    let mut fetch_replies = [Reply::Done; 11];
-    let mut fetches = planned(
-        FetchesFirst,
-        &mut fetch_prices,
-        &mut sizes,
-        &mut choices,
-        &mut fetch_replies,
-    );
-    print_tables(&rt, clock.catalogue())?;
-    print_cost(&rt, &clock)?;
-    print_plan(&rt, &Clock, &mut clock, &mut clock_prices)?;
-    print_plan(&rt, &FetchesFirst, &mut fetches, &mut fetch_prices)?;
-    read_sheet(
-        &rt,
-        &mut clock,
-        &mut clock_prices,
-        &mut fetches,
-        &mut fetch_prices,
-    )
 }

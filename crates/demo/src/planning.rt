@@ -1,36 +1,23 @@
-// Planning a question and telling the plan.
-ghost use Rattle.std.specs.Prelude.{◌≡◌, take, IfOk};
+// Planning a small question.
 ghost use Rattle.catalogue.specs.Asked.{asked};
-ghost use Rattle.planner.specs.Law.{ToldTrue};
+ghost use Rattle.solver.specs.Solves.{Cheapest};
 
-use planner::{Question, Refusal};
+use catalogue::Catalogue;
 use pricing::PriceModel;
+use solver::{Solution, SolveRefusal, solve};
 
-// A plan that was told: the tries that it took, how many bytes it has, and its price.
-#[derive(Clone, Copy)]
-pub struct Told<P> {
-    pub tries: u64,
-    pub len: usize,
-    pub price: P,
-}
+// Working rows of four tables with two tests: 2 x 2 x 3 x 3.
+pub const ROWS: usize = 36;
 
-// Solves the question in the lists that are lent, and tells the cheapest plan, or says why there is none.
-pub fn plan<M: PriceModel>(
-    question: &mut Question<M>,
+// The cheapest plan, worked out in lent room for prices, or why there is none.
+pub fn planned<M: PriceModel>(
+    model: &M,
+    question: &Catalogue,
     prices: &mut [M::Price],
-    sizes: &mut [u32],
-    choices: &mut [u16],
-    bytes: &mut [u8],
-) -> Result<Told<M::Price>, Refusal>
-    ensures model { question.new.model ≡ question.old.model }
-    ensures question { asked question.new.held.catalogue ≡ asked question.old.held.catalogue }
-    ensures told { IfOk result (λ plan. ToldTrue (M.PriceModel.meaning question.old.model) (asked question.old.held.catalogue) (take plan.len bytes.new) plan.price) }
+) -> Result<Solution<M::Price>, SolveRefusal>
+    ensures { Cheapest (meaning model.now) (asked question.now) result }
 {
-    let found = question.solve(prices, sizes, choices)?;
-    let told = question.tell(bytes)?;
-    Ok(Told {
-        tries: found.0,
-        len: told.0,
-        price: told.1,
-    })
+    let mut sizes = [0; ROWS];
+    let mut choices = [0; ROWS];
+    solve(model, question, prices, &mut sizes, &mut choices)
 }

@@ -1,80 +1,59 @@
-// A question of four tables, as the calls that ask it.
-ghost use Rattle.std.specs.Prelude.{◌≡◌};
+// A question of four tables.
+ghost use Rattle.std.specs.Prelude.{◌≡◌, MatchResult};
 ghost use Rattle.catalogue.specs.Asked.{asked};
-ghost use Rattle.demo.specs.Sample.{sample as sample-question};
-ghost use Rattle.planner.specs.Made.{Asked};
+ghost use Rattle.catalogue.specs.Changes.{empty};
+ghost use Rattle.demo.specs.Sample.{sample as sample-question, tables, ties};
 
-use planner::{Call, Question, Reply, replay};
-use pricing::PriceModel;
+use catalogue::{Catalogue, ChangeRefusal};
 
 // The table whose test the sheet corrects.
 pub const CORRECTED: u8 = 0;
-
-// Working rows of four tables with two tests: 2 x 2 x 3 x 3.
-pub const ROWS: usize = 36;
-
-// Films, the reels that hold them, the cartridges of the reels and their shelves, each tied to the next.
-// A film is fetched to test it, and a cartridge looked up.
-const CALLS: [Call<'static>; 11] = [
-    Call::Table { rows: 100 },
-    Call::Table { rows: 10 },
-    Call::Table { rows: 8 },
-    Call::Table { rows: 3 },
-    Call::Tie {
-        table: 0,
-        other: 1,
-        p: 1,
-        q: 100,
-        cost: 60,
-    },
-    Call::Tie {
-        table: 1,
-        other: 2,
-        p: 1,
-        q: 8,
-        cost: 5,
-    },
-    Call::Tie {
-        table: 2,
-        other: 3,
-        p: 1,
-        q: 3,
-        cost: 1,
-    },
-    Call::Test {
-        table: 0,
-        p: 1,
-        q: 2,
-        cost: 350,
-        kind: 1,
-    },
-    Call::Test {
-        table: 2,
-        p: 1,
-        q: 2,
-        cost: 20,
-        kind: 0,
-    },
-    Call::Solve,
-    Call::Tell,
-];
 
 // A plan written by hand: each table tested as it comes, and joined by its number.
 pub const BY_NUMBER: [u8; 18] = [
     0x10, 0, 0x11, 0, 0x10, 1, 0x12, 0, 0x10, 2, 0x11, 2, 0x12, 0, 0x10, 3, 0x12, 0,
 ];
 
-// Asks the question and plans it, in the lists that are lent.
-pub fn planned<M: PriceModel>(
-    model: M,
-    prices: &mut [M::Price],
-    sizes: &mut [u32],
-    choices: &mut [u16],
-    replies: &mut [Reply<M::Price>; 11],
-) -> Question<M>
-    ensures model { result.model ≡ model }
-    ensures question { asked result.held.catalogue ≡ sample-question }
-    ensures reached { Asked M.PriceModel.meaning result }
+// Films, the reels that hold them, the cartridges of the reels and their shelves.
+fn add_tables(question: &mut Catalogue) -> Result<(), ChangeRefusal>
+    requires { asked question.old ≡ empty }
+    ensures { MatchResult result (λ _. asked question.new ≡ tables) (λ _. ⊥) }
 {
-    replay(model, &CALLS, prices, sizes, choices, replies)
+    question.table(100)?;
+    question.table(10)?;
+    question.table(8)?;
+    question.table(3)?;
+    Ok(())
+}
+
+// Each is tied to the next.
+fn add_ties(question: &mut Catalogue) -> Result<(), ChangeRefusal>
+    requires { asked question.old ≡ tables }
+    ensures { MatchResult result (λ _. asked question.new ≡ ties) (λ _. ⊥) }
+{
+    question.tie(0, 1, 1, 100, 60)?;
+    question.tie(1, 2, 1, 8, 5)?;
+    question.tie(2, 3, 1, 3, 1)?;
+    Ok(())
+}
+
+// A film is fetched to test it, and a cartridge looked up.
+fn add_tests(question: &mut Catalogue) -> Result<(), ChangeRefusal>
+    requires { asked question.old ≡ ties }
+    ensures { MatchResult result (λ _. asked question.new ≡ sample-question) (λ _. ⊥) }
+{
+    question.test(0, 1, 2, 350, 1)?;
+    question.test(2, 1, 2, 20, 0)?;
+    Ok(())
+}
+
+// The question that the sheet corrects.
+pub fn sample() -> Result<Catalogue, ChangeRefusal>
+    ensures { MatchResult result (λ c. asked c ≡ sample-question) (λ _. ⊥) }
+{
+    let mut question = Catalogue::new();
+    add_tables(&mut question)?;
+    add_ties(&mut question)?;
+    add_tests(&mut question)?;
+    Ok(question)
 }

@@ -7,5 +7,6 @@ pub mod Ties
 pub mod RowFacts
 pub mod RowEntries
 pub mod Planned
+pub mod Examples
 pub mod Spellings
 pub mod Counting

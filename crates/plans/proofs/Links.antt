@@ -1,11 +1,9 @@
--- The test for a tie between two sets of tables tells; and a tie is found whichever way round.
-use Rattle.std.proofs.Common.{◌≡◌, ℕ, ◌<◌, min, max, Bool, true, ◌&&◌, is_some, Some, None, Decides, Option, refl, ap, ◌∙◌}
-use native.Mathlib.Nat.{min_comm, max_comm}
+-- The test for a tie between two sets of tables tells.
+use Rattle.std.proofs.Common.{◌≡◌, ℕ, ◌<◌, Bool, true, ◌&&◌, is_some, Decides, refl}
 use Rattle.std.proofs.lemmas.Bool.{and_parts, and_from}
 use Rattle.std.proofs.lemmas.Bool.Decides.{Decides-below_or}
 use Rattle.sets.specs.Sets.{has, any_below}
-use Rattle.plans.specs.declared.predicates.Tie.{Tie}
-use Rattle.plans.specs.Questions.{Question, tie_of, Linked, linked, cost_of}
+use Rattle.plans.specs.Questions.{Question, tie_of, Linked, linked}
 
 pub any_tells : (f : ℕ → Bool) (n : ℕ) → Decides (any_below f n) ((k : ℕ) × (k < n) × (f k ≡ true))
 unfolding any_below
@@ -24,11 +22,3 @@ pub linked_by : (Q : Question) (A B i j : ℕ) → i < Q.count → j < Q.count �
 unfolding linked
 linked_by Q A B i j l k a b t =
     (any_tells _ Q.count).1 (i, l, and_from (has A i) _ a ((any_tells _ Q.count).1 (j, k, and_from (has B j) (is_some (tie_of Q i j)) b t)))
-
-pub tie_both_ways : (Q : Question) (i j : ℕ) → tie_of Q i j ≡ tie_of Q j i
-unfolding tie_of
-tie_both_ways Q i j = ap (λ (k : ℕ). Q.tie k (max i j)) (min_comm i j) ∙ ap (Q.tie (min j i)) (max_comm i j)
-
-pub cost_both_ways : (Q : Question) (i j : ℕ) → cost_of Q i j ≡ cost_of Q j i
-unfolding cost_of
-cost_both_ways Q i j = ap (λ (o : Option Tie). elim o [ Some t ↦ t.cost | None ↦ 0 ]) (tie_both_ways Q i j)

@@ -5,3 +5,4 @@ pub mod Recurrence
 pub mod Entries
 pub mod Spelling
 pub mod Statement
+pub mod Samples

@@ -1,5 +1,5 @@
 -- A question: tables, the ties between them and the tests on them; and the size of each set of tables and tests.
-use Rattle.std.specs.Prelude.{◌≡◌, ℕ, ◌+◌, ◌-◌, ◌*◌, ◌/◌, ◌^◌, min, max, Bool, true, cond, ◌&&◌, List, [], ◌∷◌, is_some, Some, None, Option, bit_and}
+use Rattle.std.specs.Prelude.{◌≡◌, ℕ, ◌+◌, ◌-◌, ◌*◌, ◌/◌, ◌^◌, min, Bool, true, cond, ◌&&◌, List, [], ◌∷◌, is_some, Some, None, Option, bit_and}
 use Rattle.plans.specs.declared.predicates.Tie.{Tie}
 use Rattle.plans.specs.declared.predicates.Test.{Test}
 use Rattle.sets.specs.Sets.{has, ◌⊆◌, members, any_below, sum_below}
@@ -8,12 +8,12 @@ use Rattle.sets.specs.Sets.{has, ◌⊆◌, members, any_below, sum_below}
 pub record Question : Type 0 where
   pub count : ℕ
   pub rows : (table : ℕ) → ℕ
-  pub tie : (low high : ℕ) → Option Tie
+  pub tie : (table other : ℕ) → Option Tie
   pub test : (number : ℕ) → Option Test
 
--- The tie of two tables, whichever way round they are named.
+-- The tie of two tables, whichever way round it was given.
 unfoldable pub tie_of : Question → ℕ → ℕ → Option Tie
-tie_of Q i j = Q.tie (min i j) (max i j)
+tie_of Q i j = elim (Q.tie i j) [ Some t ↦ Some t | None ↦ Q.tie j i ]
 
 -- A test bears the number of its table.
 abbrev pub table_of : Question → (test : ℕ) → ℕ

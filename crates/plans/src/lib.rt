@@ -1,5 +1,6 @@
 // What a question, a plan and its price are, and that the recurrence over sets of tables and tests finds a cheapest plan.
 ghost use Rattle.plans.specs.Questions.{Question};
+ghost use Rattle.plans.specs.Samples.{Samples};
 ghost use Rattle.plans.specs.Spelling.{SpelledOneWay};
 ghost use Rattle.plans.specs.Statement.{Planned, ValidByCounting};
 
@@ -24,4 +25,9 @@ pub fn valid_plans_are_counted()
 // Each plan has one spelling in bytes, and bytes spell one plan or none.
 pub fn plans_are_spelled_one_way()
     ensures { SpelledOneWay }
+{}
+
+// The sample questions have the outcomes that the handbook gives.
+pub fn samples_hold()
+    ensures { Samples }
 {}

@@ -7,10 +7,9 @@ use Rattle.sets.specs.declared.rows.Row.{Row}
 use Rattle.sets.proofs.Parts.{one_le}
 use Rattle.readoff.specs.Leads.{Bare, Tested, Leads}
 use Rattle.readoff.specs.Choices.{Is, Sides}
-use Rattle.buffers.specs.Put.{Put}
-use Rattle.readoff.specs.Written.{Emitted, Front, ReadOff}
+use Rattle.readoff.specs.Written.{Put, Emitted, Front, ReadOff}
 use Rattle.readoff.proofs.Leading.{test_only, join_only, same_plan}
-use Rattle.buffers.proofs.Putting.{put_length, put_more}
+use Rattle.readoff.proofs.Putting.{put_length, put_more}
 
 pub length_test : (i : ℕ) (p : Plan) → length (spelled (test i p)) ≡ length (spelled p) + 2
 unfolding spelled

@@ -1,11 +1,9 @@
 // A plan is read off from its row downwards, and written in postorder.
 ghost use Rattle.std.specs.Prelude.{◌+◌, ◌<◌, ◌≤◌, [], ◌∷◌, length, MatchOption};
 ghost use Rattle.readoff.specs.Leads.{choice_in};
-ghost use Rattle.buffers.specs.Put.{Put};
-ghost use Rattle.readoff.specs.Written.{Emitted, ReadOff};
+ghost use Rattle.readoff.specs.Written.{Put, Emitted, ReadOff};
 
 use crate::choices::{Choice, choice_at};
-use buffers::put_pair;
 use sets::{Row, SmallSet};
 
 // The first byte of each operation's two.
@@ -52,5 +50,10 @@ fn put(buffer: &mut [u8], at: usize, operation: u8, index: u8) -> Option<usize>
     requires { at ≤ length buffer.old }
     ensures { MatchOption result (length buffer.old < at + 2) (λ end. Put buffer.old buffer.new at end (operation ∷ index ∷ [])) }
 {
-    put_pair(buffer, at, operation, index)
+    if buffer.len() - at < 2 {
+        return None;
+    }
+    buffer[at] = operation;
+    buffer[at + 1] = index;
+    Some(at + 2)
 }

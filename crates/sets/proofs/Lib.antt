@@ -7,4 +7,3 @@ pub mod Positions
 pub mod Loops
 pub mod Filling
 pub mod Order
-pub mod Fives

@@ -1,41 +1,33 @@
 // A table with a cell for each row, over cells that are lent.
-ghost use Rattle.std.specs.Prelude.{◌≡◌, false, length, set as updated, if◌then◌else◌, Decides, nat_lt};
+ghost use Rattle.std.specs.Prelude.{◌≡◌, ◌≤◌, false, length, set as updated, if◌then◌else◌, Decides, nat_lt};
 ghost use Rattle.sets.specs.Rows.{place_of, row_count, filled, Room};
 ghost use Rattle.std.specs.List.{slice_get};
 
-use crate::{Places, Row, SmallSet, row_count};
+use crate::{Row, SmallSet, next_row, position, row_count};
 
-// The cells of the rows, each at its row's place.
+// The cells of the rows, each at its row's place; `tested` are the tables that have a test.
 #[derive(Drop)]
-pub struct Ragged<'a, 'p, T> {
+pub struct Ragged<'a, T> {
     cells: &'a mut [T],
-    places: &'p Places,
+    tested: SmallSet,
 }
 
-impl<'a, 'p, T: Copy> Ragged<'a, 'p, T> {
+impl<'a, T: Copy> Ragged<'a, T> {
     // A table over the cells that are lent.
-    pub fn over(cells: &'a mut [T], places: &'p Places) -> Ragged<'a, 'p, T>
+    pub fn over(cells: &'a mut [T], tested: SmallSet) -> Ragged<'a, T>
         ensures cells { result.cells.now ≡ cells.old }
-        ensures places { result.places.now.tested ≡ places.now.tested }
+        ensures tested { result.tested ≡ tested }
         ensures lender { result.cells.ghost_name ≡ cells.entry.ghost_name }
     {
-        Ragged { cells, places }
-    }
-
-    // All the cells, each at its row's place.
-    pub fn cells(&self) -> &[T]
-        ensures { result.now ≡ self.now.cells.now }
-    {
-        let all: &[T] = self.cells;
-        all
+        Ragged { cells, tested }
     }
 
     // What the cell of the row holds, if there is such a cell.
     pub fn get(&self, row: Row) -> Option<T>
-        ensures { result ≡ slice_get self.now.cells.now (place_of self.now.places.now.tested.bits row.tables.bits row.tests.bits) }
+        ensures { result ≡ slice_get self.now.cells.now (place_of self.now.tested.bits row.tables.bits row.tests.bits) }
     {
-        let place = self.places.position(row);
-        let cells = self.cells();
+        let place = position(row, self.tested);
+        let cells: &[T] = self.cells;
         if place < cells.len() {
             Some(cells[place])
         } else {
@@ -45,13 +37,13 @@ impl<'a, 'p, T: Copy> Ragged<'a, 'p, T> {
 
     // Writes the cell of the row, if there is such a cell, and says whether there is.
     pub fn put(&mut self, row: Row, value: T) -> bool
-        ensures held { result ≡ nat_lt (place_of self.old.places.now.tested.bits row.tables.bits row.tests.bits) (length self.old.cells.now) }
-        ensures cells { self.new.cells.now ≡ updated self.old.cells.now (place_of self.old.places.now.tested.bits row.tables.bits row.tests.bits) value }
+        ensures held { result ≡ nat_lt (place_of self.old.tested.bits row.tables.bits row.tests.bits) (length self.old.cells.now) }
+        ensures cells { self.new.cells.now ≡ updated self.old.cells.now (place_of self.old.tested.bits row.tables.bits row.tests.bits) value }
         ensures kept { result ≡ false → self.new.cells.now ≡ self.old.cells.now }
-        ensures places { self.new.places.now.tested ≡ self.old.places.now.tested }
+        ensures tested { self.new.tested ≡ self.old.tested }
         ensures lender { self.new.cells.ghost_name ≡ self.old.cells.ghost_name }
     {
-        let place = self.places.position(row);
+        let place = position(row, self.tested);
         if place >= self.cells.len() {
             return false;
         }
@@ -71,8 +63,23 @@ pub fn fill<T: Copy>(cells: &mut [T], count: u8, tested: SmallSet, value: T) -> 
     if cells.len() < rows as usize {
         return false;
     }
-    for place in 0..rows as usize {
-        cells[place] = value;
-    }
+    fill_rows(cells, rows, tested, value);
     true
+}
+
+// Writes `value` into the cells of the first `rows` rows.
+fn fill_rows<T: Copy>(cells: &mut [T], rows: u32, tested: SmallSet, value: T)
+    requires held { rows ≤ length cells.old }
+    requires known { rows ≤ row_count 10 tested.bits }
+    ensures { cells.new ≡ filled rows value cells.old }
+{
+    let mut table = Ragged::over(cells, tested);
+    let mut row = Row::first();
+    for place in 0..rows {
+        table.put(row, value);
+        let Some(next) = next_row(row, tested) else {
+            return;
+        };
+        row = next;
+    }
 }

@@ -7,4 +7,3 @@ pub mod Steps
 pub mod Summing
 pub mod Turns
 pub mod Wholes
-pub mod Sides

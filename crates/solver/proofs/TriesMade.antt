@@ -1,10 +1,9 @@
 -- One candidate more: the best so far, and how many were there.
-use Rattle.std.proofs.Common.{◌≡◌, ℕ, zero, suc, ◌+◌, ◌<◌, ◌≤◌, Bool, true, false, cond, is_some, Some, None, Option, sym, refl, ap, ◌∙◌, subst, ap₂, add-one, arith}
+use Rattle.std.proofs.Common.{◌≡◌, ℕ, ◌+◌, ◌≤◌, Bool, true, false, cond, is_some, Option, sym, refl, ap, ◌∙◌, subst, ap₂, add-one, arith}
 use Rattle.pricing.specs.Models.{Model}
 use Rattle.plans.specs.declared.entries.Entry.{Entry}
 use Rattle.plans.specs.Entries.{better, best_entry}
 use Rattle.plans.specs.Recurrence.{found}
-use Rattle.solver.specs.declared.candidates.Tried.{Tried}
 use Rattle.plans.proofs.RowEntries.{best_entry_none, best_entry_more}
 
 pub found_none : {X : Type 0} (f : ℕ → Option X) → found f 0 ≡ 0
@@ -41,26 +40,5 @@ module _ {P : Type 0} (m : Model P) (a : Option (Entry P)) (k : ℕ) (f : ℕ �
     few = omega (arith, w, h.few, one_at_most (is_some c));
   }
 
-  -- one that is there, and one that is not
-  pub tries_some : (n tries : ℕ) (best : Option (Entry P)) (c : Entry P) (made new : Tried P) → Tries m a k f n best tries
-      → Some c ≡ f n → made.best ≡ better m best (Some c) → made.tries ≡ tries + 1 → new ≡ made → Tries m a k f (n + 1) new.best new.tries
-  tries_some n tries best c made new h e v w same =
-      subst (λ (t : Tried P). Tries m a k f (n + 1) t.best t.tries) (sym same) (tries_more n best made.best tries made.tries (Some c) h e v w)
-
-  pub tries_no : (n : ℕ) (old new : Tried P) → Tries m a k f n old.best old.tries → None ≡ f n → new ≡ old → Tries m a k f (n + 1) new.best new.tries
-  tries_no n old new h e same =
-      subst (λ (t : Tried P). Tries m a k f (n + 1) t.best t.tries) (sym same) (tries_more n old.best old.best old.tries old.tries None h e (sym (kept old.best)) (omega arith))
-    where
-      kept : (b : Option (Entry P)) → better m b None ≡ b
-      kept None = refl
-      kept (Some b) = refl
-
   pub tries_end : (n e : ℕ) (best : Option (Entry P)) (tries : ℕ) → Tries m a k f n best tries → n ≡ e → Tries m a k f e best tries
   tries_end n e best tries h z = subst (λ (x : ℕ). Tries m a k f x best tries) z h
-
-  -- numbers that are no candidates
-  pub tries_skip : (d n e : ℕ) (best : Option (Entry P)) (tries : ℕ) → e ≡ n + d → ((i : ℕ) → n ≤ i → i < e → f i ≡ None) → Tries m a k f n best tries → Tries m a k f e best tries
-  tries_skip zero n e best tries z none h = tries_end n e best tries h (omega arith)
-  tries_skip (suc d) n e best tries z none h =
-      tries_skip d (n + 1) e best tries (omega arith) (λ i l u. none i (omega arith) u)
-      (tries_no n (record { best = best; tries = tries }) (record { best = best; tries = tries }) h (sym (none n (omega arith) (omega arith))) refl)

@@ -1,6 +1,5 @@
 // Finds the cheapest plan of every set of tables and tests, and reads that of the whole question off.
 mod candidates;
-mod lists;
 mod rows;
 mod solutions;
 mod solving;

@@ -1,6 +1,8 @@
 use Rattle.std.proofs.Common.{arith}
-use Rattle.sets.proofs.Filling.{filled_more}
+use Rattle.sets.proofs.Positions.{more_rows}
 use Rattle.sets.proofs.cells.fill.Goals as goal
 
-pub loop-place-preserved : goal.loop-place-preserved
-loop-place-preserved g c = filled_more _ _ _ c.loop-place.place (omega arith) c.loop-place.invariant
+pub fill-rows-requires : goal.fill-rows-requires
+fill-rows-requires g c =
+    let e = c.in-Some.ensures in
+    record { held = omega arith; known = omega (arith, e.1, more_rows c.args.count 10 c.args.tested.bits e.0.0 e.0.1) }

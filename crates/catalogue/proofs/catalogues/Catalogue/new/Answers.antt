@@ -22,13 +22,7 @@ invariant-of-result c = (
               λ k. subst (λ (t : Option Tie). tie_p t ≤ tie_q t) (sym (each_same None 100 k)) (omega arith),
               (
                 λ i. subst (λ (t : Option Test). 1 ≤ test_q t) (sym (each_same None 10 i)) (omega arith),
-                (
-                  λ i. subst (λ (t : Option Test). test_p t ≤ test_q t) (sym (each_same None 10 i)) (omega arith),
-                  (
-                    λ i j s h. each_same None 100 (i * 10 + j),
-                    (λ i j s h. each_same None 100 (i * 10 + j), (λ i j s h. each_same None 100 (i * 10 + j), (λ i h. each_same None 10 i, tt))),
-                  ),
-                ),
+                (λ i. subst (λ (t : Option Test). test_p t ≤ test_q t) (sym (each_same None 10 i)) (omega arith), tt),
               ),
             ),
           ),

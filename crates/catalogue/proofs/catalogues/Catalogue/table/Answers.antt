@@ -15,25 +15,7 @@ invariant-of-self c =
             q.ten_tests,
             (
               each_set (λ n. n ≤ 16777215) q.rows q.count c.args.rows 0 in_room (omega arith) q.room,
-              (
-                q.tie_whole,
-                (
-                  q.tie_part,
-                  (
-                    q.test_whole,
-                    (
-                      q.test_part,
-                      (
-                        q.tie_order,
-                        (
-                          λ i j s h. q.tie_low i j s (omega arith),
-                          (λ i j s h. q.tie_high i j s (omega arith), (λ i h. q.test_given i (omega arith), tt)),
-                        ),
-                      ),
-                    ),
-                  ),
-                ),
-              ),
+              (q.tie_whole, (q.tie_part, (q.test_whole, (q.test_part, tt)))),
             ),
           ),
         ),

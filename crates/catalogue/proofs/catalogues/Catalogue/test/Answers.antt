@@ -1,6 +1,6 @@
-use Rattle.std.proofs.Common.{◌<◌, ◌≤◌, ◌≢◌, length, None, ◌∙◌, arith, length-set}
+use Rattle.std.proofs.Common.{◌<◌, ◌≤◌, length, None, ◌∙◌, arith, length-set}
 use Rattle.catalogue.specs.Fair.{test_p, test_q}
-use Rattle.catalogue.proofs.Places.{each_set, other_set}
+use Rattle.catalogue.proofs.Places.{each_set}
 use Rattle.catalogue.proofs.catalogues.Catalogue.test.Goals as goal
 
 pub invariant-of-self : goal.invariant-of-self
@@ -23,16 +23,7 @@ invariant-of-self c =
                   q.tie_part,
                   (
                     each_set (λ t. 1 ≤ test_q t) q.tests i _ None in_room (omega (arith, c.if-q-eq0.false)) q.test_whole,
-                    (
-                      each_set (λ t. test_p t ≤ test_q t) q.tests i _ None in_room (omega (arith, c.if-p-q.false)) q.test_part,
-                      (
-                        q.tie_order,
-                        (
-                          q.tie_low,
-                          (q.tie_high, (λ k h. other_set q.tests i k _ None (let ne : k ≢ i = omega arith in ne) (q.test_given k h), tt)),
-                        ),
-                      ),
-                    ),
+                    (each_set (λ t. test_p t ≤ test_q t) q.tests i _ None in_room (omega (arith, c.if-p-q.false)) q.test_part, tt),
                   ),
                 ),
               ),

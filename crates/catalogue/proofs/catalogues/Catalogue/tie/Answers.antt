@@ -1,16 +1,12 @@
-use Rattle.std.proofs.Common.{ℕ, ◌+◌, ◌*◌, ◌<◌, ◌≤◌, ◌≢◌, length, Some, None, ◌∙◌, arith, length-set}
+use Rattle.std.proofs.Common.{ℕ, ◌+◌, ◌*◌, ◌<◌, ◌≤◌, length, Some, None, ◌∙◌, arith, length-set}
 use Rattle.catalogue.specs.Fair.{tie_p, tie_q}
-use Rattle.catalogue.proofs.Places.{each_set, other_set}
+use Rattle.catalogue.proofs.Places.{each_set}
 use Rattle.catalogue.proofs.catalogues.Catalogue.tie.Goals as goal
 
 pub invariant-of-self : goal.invariant-of-self
 invariant-of-self c =
     let q = c.args.self.now in
-    let low : ℕ = c.min-low.result in
-    let high : ℕ = c.max-high.result in
-    let k : ℕ = low * 10 + high in
-    let apart : low < high = omega (arith, c.min-low.ensures, c.max-high.ensures) in
-    let given : high < q.count = omega (arith, c.max-high.ensures) in
+    let k : ℕ = c.args.table * 10 + c.args.other in
     let in_room : k < length q.ties = omega (arith, q.all_ties, q.few) in (
       q.few,
       (
@@ -25,19 +21,7 @@ invariant-of-self c =
                 each_set (λ t. 1 ≤ tie_q t) q.ties k _ None in_room (omega (arith, c.if-q-eq0.false)) q.tie_whole,
                 (
                   each_set (λ t. tie_p t ≤ tie_q t) q.ties k _ None in_room (omega (arith, c.if-p-q.false)) q.tie_part,
-                  (
-                    q.test_whole,
-                    (
-                      q.test_part,
-                      (
-                        λ i j s h. other_set q.ties k (i * 10 + j) _ None (omega arith) (q.tie_order i j s h),
-                        (
-                          λ i j s h. other_set q.ties k (i * 10 + j) _ None (omega arith) (q.tie_low i j s h),
-                          (λ i j s h. other_set q.ties k (i * 10 + j) _ None (omega arith) (q.tie_high i j s h), (q.test_given, tt)),
-                        ),
-                      ),
-                    ),
-                  ),
+                  (q.test_whole, (q.test_part, tt)),
                 ),
               ),
             ),

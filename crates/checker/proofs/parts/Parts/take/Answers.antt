@@ -6,7 +6,7 @@ use Rattle.checker.proofs.parts.Parts.take.Goals as goal
 
 pub returns-in-16 : goal.returns-in-16
 returns-in-16 c = λ parts h.
-    subst (λ o. Took (asked c.args.catalogue.now) parts o c.add_table.result c.add_table.new.self) (step_table _ c.args.first c.args.second parts (omega arith)) (c.add_table.ensures parts h)
+    subst (λ o. Took (asked c.args.catalogue.now) parts o c.add-table.result c.add-table.new.self) (step_table _ c.args.first c.args.second parts (omega arith)) (c.add-table.ensures parts h)
 
 pub returns-in-17 : goal.returns-in-17
 returns-in-17 c = λ parts h.
