@@ -5,7 +5,7 @@ use Rattle.reading.specs.declared.ReadingFault.{ReadingFault}
 use Rattle.reading.specs.Outcomes.{unsigned_reading, plain, negative, reading}
 use Rattle.reading.proofs.Laws.{meant}
 use Rattle.reading.proofs.reader.signed.Goals as goal
-use Rattle.reading.proofs.reader.signed.Goals.{in-default-via-then-text-lt1, in-default-via-else-text-lt1+in-default·}
+use Rattle.reading.proofs.reader.signed.Goals.{in_default-via-then-text-lt1, in_default-via-else-text-lt1+in_default-1}
 
 after_minus : (t : List ℕ) (r : Result ℤ ReadingFault) → get_or t 0 0 ≡ 45 → r ≡ negative (unsigned_reading (take (length t - 1) (drop 1 t))) → r ≡ reading t
 after_minus t r h e = rw h (e ∙ ap (λ u. negative (unsigned_reading u)) (take_rest t 1))
@@ -18,10 +18,10 @@ returns-in-45 c =
     let o = after_minus c.args.text.now c.after_minus.result (search rules) c.after_minus.ensures in
     record { outcome = o; meaning = meant c.args.text.now c.after_minus.result o }
 
-pub returns-in-default : goal.returns-in-default
-returns-in-default c =
+pub returns-in_default : goal.returns-in_default
+returns-in_default c =
     let t = c.args.text.now in
     let first : get_or t 0 0 ≡ 45 → ⊥ =
-    λ e. elim c.in-default.branch [ in-default-via-then-text-lt1 w ↦ omega (arith, get_or_past t 0 0 (omega (arith, ltb-true))) | in-default-via-else-text-lt1+in-default· w ↦ omega arith ] in
+    λ e. elim c.in_default.branch [ in_default-via-then-text-lt1 w ↦ omega (arith, get_or_past t 0 0 (omega (arith, ltb-true))) | in_default-via-else-text-lt1+in_default-1 w ↦ omega arith ] in
     let o = without_minus t c.without_minus.result first c.without_minus.ensures in
     record { outcome = o; meaning = meant t c.without_minus.result o }

@@ -31,6 +31,6 @@ written n t before after (Err BeyondRange) h e p = absurd p
 pub returns : goal.returns
 returns c =
     let n = c.args.thousandths in
-    let e = laid_bits n c.unsigned-abs.result c.five_digits.result c.ranges.thousandths c.unsigned-abs.ensures.value c.five_digits.ensures in
-    let w = written n _ c.args.buffer.now c.put-digits.new.buffer c.put-digits.result (search rules) e c.put-digits.ensures in
+    let e = laid_bits n c.unsigned_abs.result c.five_digits.result c.ranges.thousandths c.unsigned_abs.ensures.value c.five_digits.ensures in
+    let w = written n _ c.args.buffer.now c.put_digits.new.buffer c.put_digits.result (search rules) e c.put_digits.ensures in
     record { outcome = w.0; meaning = w.1 }
