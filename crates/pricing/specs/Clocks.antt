@@ -23,6 +23,6 @@ clock = record {
   bare = λ rows. rows;
   tested = λ input size cost kind. limited (input + test_ms size cost);
   joined = λ left right left_size right_size size costs. limited (left + right + join_ms left_size right_size size costs);
-  at_most = leb;
+  at_most = nat_le;
   past = λ price. nat_le most_ms price;
 }

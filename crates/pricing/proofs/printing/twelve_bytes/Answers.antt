@@ -3,4 +3,4 @@ use Rattle.pricing.proofs.printing.twelve_bytes.Goals as goal
 
 pub returns : goal.returns
 returns c =
-    twelve_bytes c.four-bytes.result c.eight_bytes.result c.args.price.fetches c.args.price.ms c.four-bytes.ensures c.eight_bytes.ensures
+    twelve_bytes c.four_bytes.result c.eight_bytes.result c.args.price.fetches c.args.price.ms c.four_bytes.ensures c.eight_bytes.ensures
