@@ -7,17 +7,17 @@ use Rattle.sets.proofs.rows.rows_before.Goals.{then-tests-eq1, else-tests-eq1, t
 pub loop-left-init : goal.loop-left-init
 loop-left-init c = placing_none _ _ (omega (arith, c.bits-left.ensures, c.args.tables.few))
 
-pub overflow-cast-above : goal.overflow-cast-above
-overflow-cast-above c = omega (arith, placing_above _ _ _ _ _ _ _ c.loop-left.invariant c.loop-left-test.true)
+pub overflow_cast-above : goal.overflow_cast-above
+overflow_cast-above c = omega (arith, placing_above _ _ _ _ _ _ _ c.loop-left.invariant c.loop-left-test.true)
 
-pub overflow-add-twos : goal.overflow-add-twos
-overflow-add-twos c = omega (arith, placing_above _ _ _ _ _ _ _ c.loop-left.invariant c.loop-left-test.true)
+pub overflow_add-twos : goal.overflow_add-twos
+overflow_add-twos c = omega (arith, placing_above _ _ _ _ _ _ _ c.loop-left.invariant c.loop-left-test.true)
 
 pub power-sum-requires : goal.power-sum-requires
 power-sum-requires c = (placing_above _ _ _ _ _ _ _ c.loop-left.invariant c.loop-left-test.true, omega (arith, c.loop-left.invariant.tables))
 
-pub overflow-add-sum : goal.overflow-add-sum
-overflow-add-sum c = omega (arith, c.power-sum.ensures, placing_add _ _ _ _ _ _ _ c.loop-left.invariant (omega (arith, c.bits-left.ensures, c.args.tables.few)) c.if-left-eq1.true)
+pub overflow_add-sum : goal.overflow_add-sum
+overflow_add-sum c = omega (arith, c.power-sum.ensures, placing_add _ _ _ _ _ _ _ c.loop-left.invariant (omega (arith, c.bits-left.ensures, c.args.tables.few)) c.if-left-eq1.true)
 
 pub loop-left-preserved : goal.loop-left-preserved
 loop-left-preserved c =
