@@ -13,6 +13,7 @@ import sys
 WORD = r"[^\s(){}\[\],;.:@\"«»\\]+"
 DEFINED = re.compile(r"^\s*(?:(?:abbrev|unfoldable|pub|data|record|ruleset)\s+)*(" + WORD + r")(?=\s*(?::(?:\s|$)|\s\(|\s\{|\s:))", re.M)
 BOUND = re.compile(r"\b(?:let|where)\s+(" + WORD + r")\s*(?::(?:\s|$)|=)")
+ALIAS = re.compile(r"\bas\s+(" + WORD + r")(?=\s*[,};]|$)", re.M)
 BINDER = re.compile(r"[({]([^(){}:;=]+?)\s:\s")
 GOAL = re.compile(r"^(?:returns|loop|invariant|decreases|overflow|bounds|offset|index|unreachable|shared|from|divisor|ensures)[-_·]|-requires(?:-|$)|-(?:preserved|init|smaller)(?:-|$)")
 GOALFILES = ("Answers.antt", "Invariants.antt", "Choices.antt", "Proof.antt")
@@ -50,12 +51,22 @@ def defined():
         found += [m.group(1) for m in BOUND.finditer(text)]
         for m in BINDER.finditer(text):
             found += m.group(1).split()
+        found += aliases(text)
         for n in found:
             if "-" in n.strip("-") and re.match(r"[A-Za-z]", n) and "·" not in n:
                 if goals and GOAL.search(n):
                     continue
                 names.setdefault(n, set()).add(path)
+    for path in files(".rt"):
+        for n in aliases(uncommented(read(path), "//")):
+            if "-" in n:
+                names.setdefault(n, set()).add(path)
     return names
+
+
+def aliases(text):
+    """The names that imports give with `as`."""
+    return [m.group(1) for line in text.split("\n") if re.match(r"\s*(?:ghost )?use ", line) for m in ALIAS.finditer(line)]
 
 
 def new_name(old):

@@ -1,7 +1,7 @@
 // What ties two sets of tables, and the sets of all tables and all tests.
 ghost use Rattle.std.specs.Prelude.{◌≡◌, ◌+◌, ◌*◌, ◌^◌, ◌<◌, ◌≤◌, ◌&&◌, is_some, if◌then◌else◌};
 ghost use Rattle.catalogue.specs.Asked.{asked};
-ghost use Rattle.plans.specs.Questions.{across as across-of, all_tables, all_tests, cost_of, linked as linked_by, tie_of};
+ghost use Rattle.plans.specs.Questions.{across as across_of, all_tables, all_tests, cost_of, linked as linked_by, tie_of};
 ghost use Rattle.sets.specs.Sets.{any_below, has, sum_below};
 
 use crate::Catalogue;
@@ -55,7 +55,7 @@ impl Catalogue {
 
     // The costs of all ties between the left tables and the right, added up.
     pub fn across(&self, left: SmallSet, right: SmallSet) -> u32
-        ensures { result ≡ across-of (asked self.now) left.bits right.bits }
+        ensures { result ≡ across_of (asked self.now) left.bits right.bits }
     {
         let mut sum = 0;
         for table in 0..self.count {

@@ -1,8 +1,8 @@
 // Sizes of sets of tables under sets of tests, and what ties two sets.
 ghost use Rattle.std.specs.Prelude.{◌≡◌, ℕ, ◌+◌, ◌*◌, ◌^◌, ◌<◌, ◌≤◌, min};
 ghost use Rattle.catalogue.specs.Asked.{asked};
-ghost use Rattle.catalogue.specs.Members.{from, tied_rows as tied-rows-of};
-ghost use Rattle.plans.specs.Questions.{across as across-of, base as base-of, charged as charged-for, linked as linked_by, narrowed as narrowed-by, size as size-of-set, tie_of, up};
+ghost use Rattle.catalogue.specs.Members.{from, tied_rows as tied_rows_of};
+ghost use Rattle.plans.specs.Questions.{across as across_of, base as base_of, charged as charged_for, linked as linked_by, narrowed as narrowed_by, size as size_of_set, tie_of, up};
 
 use crate::{Catalogue, MOST_ROWS};
 use sets::SmallSet;
@@ -21,7 +21,7 @@ impl Catalogue {
     // The rows of a table, or what its test leaves of them if the test is one of `tests`.
     fn base(&self, tests: SmallSet, table: u8) -> u32
         requires { table < 10 }
-        ensures value { result ≡ base-of (asked self.now) tests.bits table }
+        ensures value { result ≡ base_of (asked self.now) tests.bits table }
         ensures bound { result ≤ 16777215 }
     {
         let rows = self.rows[table as usize];
@@ -33,7 +33,7 @@ impl Catalogue {
 
     // n × p / q rounded up, if the two tables are tied.
     fn tied_rows(&self, table: u8, other: u8, n: u64) -> u64
-        ensures value { result ≡ tied-rows-of (tie_of (asked self.now) table other) n }
+        ensures value { result ≡ tied_rows_of (tie_of (asked self.now) table other) n }
         ensures bound { result ≤ n }
     {
         match self.tie_of(table, other) {
@@ -45,7 +45,7 @@ impl Catalogue {
     // n, narrowed by the ties of the table to those of the set above it.
     fn narrowed(&self, table: u8, tables: SmallSet, n: u64) -> u64
         requires { table < 10 }
-        ensures value { result ≡ narrowed-by (asked self.now) table (from (table + 1) self.now.count tables.bits) n }
+        ensures value { result ≡ narrowed_by (asked self.now) table (from (table + 1) self.now.count tables.bits) n }
         ensures bound { result ≤ n }
     {
         let mut left = n;
@@ -60,7 +60,7 @@ impl Catalogue {
     // The size of a table and of those of the set above it, from the size of those.
     fn size_above(&self, table: u8, tables: SmallSet, tests: SmallSet, rest: u32) -> u32
         requires { table < 10 }
-        ensures value { result ≡ min 16777215 (narrowed-by (asked self.now) table (from (table + 1) self.now.count tables.bits) (base-of (asked self.now) tests.bits table * rest)) }
+        ensures value { result ≡ min 16777215 (narrowed_by (asked self.now) table (from (table + 1) self.now.count tables.bits) (base_of (asked self.now) tests.bits table * rest)) }
     {
         let pairs = self.base(tests, table) as u64 * rest as u64;
         let left = self.narrowed(table, tables, pairs);
@@ -73,7 +73,7 @@ impl Catalogue {
 
     // The size of the tables under the tests.
     pub fn size(&self, tables: SmallSet, tests: SmallSet) -> u32
-        ensures value { result ≡ size-of-set (asked self.now) tables.bits tests.bits }
+        ensures value { result ≡ size_of_set (asked self.now) tables.bits tests.bits }
         ensures bound { result ≤ 16777215 }
     {
         let mut size = 1;
@@ -87,7 +87,7 @@ impl Catalogue {
 
     // The rows that a test is charged for where it is put to the tables under the tests.
     pub fn charged(&self, test: u8, tables: SmallSet, tests: SmallSet) -> u32
-        ensures { result ≡ charged-for (asked self.now) test tables.bits tests.bits }
+        ensures { result ≡ charged_for (asked self.now) test tables.bits tests.bits }
     {
         self.size(tables, tests)
     }

@@ -17,7 +17,7 @@ pub fn check<M: PriceModel>(
     bytes: &[u8],
     prices: &mut [M::Price],
 ) -> Result<M::Price, CheckRefusal>
-    ensures { Checked (meaning model.now) (asked catalogue.now) bytes.now prices.old result prices.new }
+    ensures { Checked (M.meaning model.now) (asked catalogue.now) bytes.now prices.old result prices.new }
 {
     if prices.len() < 10 {
         return Err(CheckRefusal::ListTooShort);

@@ -26,7 +26,7 @@ fn price_of<M: PriceModel>(
     at: usize,
 ) -> M::Price
     requires { Reaches done at (length prices.now) }
-    ensures { result ≡ price_from (meaning model.now) (asked catalogue.now) done (slice_index_or prices.now at result) (slice_index_or prices.now (at + 1) result) }
+    ensures { result ≡ price_from (M.meaning model.now) (asked catalogue.now) done (slice_index_or prices.now at result) (slice_index_or prices.now (at + 1) result) }
 {
     match done {
         Operation::Table(table) => model.bare(size_of(catalogue, table)),
@@ -54,7 +54,7 @@ pub(crate) fn price_plan<M: PriceModel>(
 ) -> M::Price
     requires room { 10 ≤ length prices.old }
     requires valid { SpellsSome (asked catalogue.now) bytes.now }
-    ensures { Priced (meaning model.now) (asked catalogue.now) bytes.now prices.old result prices.new }
+    ensures { Priced (M.meaning model.now) (asked catalogue.now) bytes.now prices.old result prices.new }
 {
     let mut parts = Parts::none();
     let mut left = bytes;

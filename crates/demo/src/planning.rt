@@ -15,7 +15,7 @@ pub fn planned<M: PriceModel>(
     question: &Catalogue,
     prices: &mut [M::Price],
 ) -> Result<Solution<M::Price>, SolveRefusal>
-    ensures { Cheapest (meaning model.now) (asked question.now) result }
+    ensures { Cheapest (M.meaning model.now) (asked question.now) result }
 {
     let mut sizes = [0; ROWS];
     let mut choices = [0; ROWS];

@@ -2,7 +2,7 @@
 ghost use Rattle.std.specs.Prelude.{◌≡◌, MatchResult};
 ghost use Rattle.catalogue.specs.Asked.{asked};
 ghost use Rattle.catalogue.specs.Changes.{empty};
-ghost use Rattle.demo.specs.Sample.{sample as sample-question, tables, ties};
+ghost use Rattle.demo.specs.Sample.{sample as sample_question, tables, ties};
 
 use catalogue::{Catalogue, ChangeRefusal};
 
@@ -40,7 +40,7 @@ fn add_ties(question: &mut Catalogue) -> Result<(), ChangeRefusal>
 // A film is fetched to test it, and a cartridge looked up.
 fn add_tests(question: &mut Catalogue) -> Result<(), ChangeRefusal>
     requires { asked question.old ≡ ties }
-    ensures { MatchResult result (λ _. asked question.new ≡ sample-question) (λ _. ⊥) }
+    ensures { MatchResult result (λ _. asked question.new ≡ sample_question) (λ _. ⊥) }
 {
     question.test(0, 1, 2, 350, 1)?;
     question.test(2, 1, 2, 20, 0)?;
@@ -49,7 +49,7 @@ fn add_tests(question: &mut Catalogue) -> Result<(), ChangeRefusal>
 
 // The question that the sheet corrects.
 pub fn sample() -> Result<Catalogue, ChangeRefusal>
-    ensures { MatchResult result (λ c. asked c ≡ sample-question) (λ _. ⊥) }
+    ensures { MatchResult result (λ c. asked c ≡ sample_question) (λ _. ⊥) }
 {
     let mut question = Catalogue::new();
     add_tables(&mut question)?;

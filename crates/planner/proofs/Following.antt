@@ -1,7 +1,7 @@
 -- What a caller knows after a call, from the number of its refusal and from what it leaves.
 use Rattle.std.proofs.Common.{◌≡◌, ℕ, ◌<◌, ◌≤◌, cond, eqb, ◌⊎◌, List, length, Ok, Err, Result, sym, refl, ap, ◌∙◌, subst, ⊎_elim, arith}
 use Rattle.pricing.specs.Models.{Model, Lawful}
-use Rattle.plans.specs.Questions.{Question as Asked-question}
+use Rattle.plans.specs.Questions.{Question as AskedQuestion}
 use Rattle.plans.specs.Plans.{Plan}
 use Rattle.plans.specs.Prices.{price}
 use Rattle.plans.specs.Recurrence.{all_tries}
@@ -64,7 +64,7 @@ module _ {M P : Type 0} (meaning : M → Model P) (q r : Question M P) (ps ss cs
       m : Model P
       m = meaning q.model
 
-      Q : Asked-question
+      Q : AskedQuestion
       Q = asked q.held.catalogue
 
       go : (o : Result Plan SolveRefusal) → outcome m Q (enough Q ps ss cs) ≡ o → Solves m (state_of q.held) (solved tries v) (state_of r.held) o
@@ -79,7 +79,7 @@ module _ {M P : Type 0} (meaning : M → Model P) (q r : Question M P) (ps ss cs
       m : Model P
       m = meaning q.model
 
-      Q : Asked-question
+      Q : AskedQuestion
       Q = asked q.held.catalogue
 
       go : (o : Result Plan SolveRefusal) → Solves m (state_of q.held) (refused (solve_number e)) (state_of r.held) o → o ≡ Err e

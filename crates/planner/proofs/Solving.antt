@@ -2,7 +2,7 @@
 use Rattle.std.proofs.Common.{◌≡◌, ℕ, ◌≤◌, min, Bool, List, length, take, Some, None, Ok, Err, Option, Result, sym, refl, ap, ◌∙◌, subst, ap₂, arith, length-take}
 use Rattle.pricing.specs.Models.{Model, Lawful}
 use Rattle.plans.specs.Questions.{Question}
-use Rattle.plans.specs.Plans.{Plan, Answers as Valid-plan}
+use Rattle.plans.specs.Plans.{Plan, Answers as ValidPlan}
 use Rattle.plans.specs.Prices.{price}
 use Rattle.plans.specs.Recurrence.{all_tries}
 use Rattle.plans.specs.Spelling.{spelled}
@@ -50,7 +50,7 @@ module _ {P : Type 0} (m : Model P) where
     plan : (p : Plan) × (outcome m Q room ≡ Ok p) × Tells m Q p x
     plan = answered Q (outcome m Q room) x t
 
-    valid_plan : Valid-plan Q plan.0
+    valid_plan : ValidPlan Q plan.0
     valid_plan = (found_cheapest m Q laws plan.0 (plan_found m Q room plan.0 plan.1)).valid
 
     pub stands_valid : StandsValid Q (Some x)

@@ -18,5 +18,5 @@ pub use runs::replay;
 // The law over runs of calls, for every model: whatever was called since a question was made, what tell answers is a cheapest plan of the
 // question as it stands, and solve refuses only where there is none to tell.
 pub fn told_plans_are_never_undercut<M: PriceModel>(model: &M)
-    ensures { Law (M.PriceModel.meaning model.now) }
+    ensures { Law (M.meaning model.now) }
 {}

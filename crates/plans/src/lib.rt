@@ -14,7 +14,7 @@ pub use predicates::{Test, Tie};
 
 // Under the model the recurrence gives every question a cheapest valid plan wherever there is a valid one.
 pub fn recurrence_is_cheapest<M: PriceModel>(model: &M)
-    ensures { (Q : Question) → Planned (meaning model.now) Q }
+    ensures { (Q : Question) → Planned (M.meaning model.now) Q }
 {}
 
 // A plan is valid just where each table and each test stands once in it, in its place, and nothing else.

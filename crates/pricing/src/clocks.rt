@@ -1,13 +1,13 @@
 // Clock: prices in milliseconds.
 ghost use Rattle.std.specs.Prelude.{◌≡◌, ℕ, ◌+◌, ◌*◌, ◌^◌, ◌<◌};
-ghost use Rattle.pricing.specs.Clocks.{clock, limited as limited-ms, test_ms, join_ms};
+ghost use Rattle.pricing.specs.Clocks.{clock, limited as limited_ms, test_ms, join_ms};
 ghost use Rattle.std.proofs.Common.{rules};
 
 use crate::{Kind, PriceModel};
 
 // The milliseconds up to 2^64 - 1.
 pub(crate) fn limited(ms: u128) -> u64
-    ensures { result ≡ limited-ms ms }
+    ensures { result ≡ limited_ms ms }
 {
     if ms > u64::MAX as u128 {
         u64::MAX

@@ -1,6 +1,6 @@
 // Fetches first: prices by fetches, and of equally many by milliseconds.
 ghost use Rattle.std.specs.Prelude.{◌≡◌};
-ghost use Rattle.pricing.specs.Fetches.{OnePast, counted as counted-price, fetches_first, test_fetches};
+ghost use Rattle.pricing.specs.Fetches.{OnePast, counted as counted_price, fetches_first, test_fetches};
 ghost use Rattle.pricing.specs.Prices.{fetches_first_lawful};
 
 use crate::clocks::{join_ms, limited, test_ms};
@@ -11,7 +11,7 @@ const MOST_FETCHES: u32 = u32::MAX;
 
 // The price of so many fetches and milliseconds; fetches at the limit or above take the milliseconds with them.
 fn counted(fetches: u64, ms: u128) -> FetchPrice
-    ensures { result ≡ counted-price fetches ms }
+    ensures { result ≡ counted_price fetches ms }
 {
     if fetches >= MOST_FETCHES as u64 {
         FetchPrice {

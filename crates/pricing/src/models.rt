@@ -1,6 +1,6 @@
 // The price model: five answers, and the laws that they keep.
 ghost use Rattle.std.specs.Prelude.{◌≡◌};
-ghost use Rattle.pricing.specs.Models.{Model, Lawful, cheaper as cheaper-by};
+ghost use Rattle.pricing.specs.Models.{Model, Lawful, cheaper as cheaper_by};
 
 use crate::Kind;
 
@@ -41,7 +41,7 @@ pub trait PriceModel {
 
     // Whether `a` is cheaper than `b`, which is that `b` is not at most `a`.
     fn cheaper(&self, a: Self::Price, b: Self::Price) -> bool
-        ensures { result ≡ cheaper-by (meaning self.now) a b }
+        ensures { result ≡ cheaper_by (meaning self.now) a b }
     {
         !self.at_most(b, a)
     }

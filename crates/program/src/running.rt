@@ -24,7 +24,7 @@ fn answer<M: PrintableModel>(
     choices: &mut [u16],
 ) -> Result<Output, Refused>
     requires { asked question.old.held.catalogue ≡ empty }
-    ensures { Answered (M.PriceModel.meaning question.old.model) (M.PrintableModel.shown question.old.model) (ran (M.PriceModel.meaning question.old.model) (length prices.old) (length sizes.old) (length choices.old) input.now) result }
+    ensures { Answered (M.meaning question.old.model) (M.shown question.old.model) (ran (M.meaning question.old.model) (length prices.old) (length sizes.old) (length choices.old) input.now) result }
 {
     if input.len() > MOST_INPUT {
         return Err(Refused {
@@ -57,8 +57,8 @@ pub fn run<M: PrintableModel + Drop>(
     sizes: &mut [u32],
     choices: &mut [u16],
 ) -> Output
-    ensures written { take result.len result.bytes ≡ written (M.PriceModel.meaning model) (M.PrintableModel.shown model) (ran (M.PriceModel.meaning model) (length prices.old) (length sizes.old) (length choices.old) input.now) }
-    ensures honest { Honest (M.PriceModel.meaning model) (M.PrintableModel.shown model) (length prices.old) (length sizes.old) (length choices.old) input.now (take result.len result.bytes) }
+    ensures written { take result.len result.bytes ≡ written (M.meaning model) (M.shown model) (ran (M.meaning model) (length prices.old) (length sizes.old) (length choices.old) input.now) }
+    ensures honest { Honest (M.meaning model) (M.shown model) (length prices.old) (length sizes.old) (length choices.old) input.now (take result.len result.bytes) }
 {
     let mut question = Question::new(model);
     match answer(&mut question, input, prices, sizes, choices) {

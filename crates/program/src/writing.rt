@@ -41,7 +41,7 @@ fn put_pairs(output: &mut Output, plan: &[u8])
 // The price's bytes.
 fn put_price<M: PrintableModel>(output: &mut Output, model: &M, price: M::Price)
     requires { output.old.len ≤ 145 }
-    ensures text { take output.new.len output.new.bytes ≡ take output.old.len output.old.bytes ++ hex_line (0x1E ∷ M.PrintableModel.shown model.now price) }
+    ensures text { take output.new.len output.new.bytes ≡ take output.old.len output.old.bytes ++ hex_line (0x1E ∷ M.shown model.now price) }
     ensures room { output.new.len ≤ 172 }
 {
     let mut room = [0; PRICE_ROOM];
@@ -65,7 +65,7 @@ pub(crate) fn plan_output<M: PrintableModel>(
     tries: u64,
 ) -> Output
     requires { length plan.now ≤ 58 }
-    ensures { take result.len result.bytes ≡ plan_lines plan.now (M.PrintableModel.shown model.now price) tries }
+    ensures { take result.len result.bytes ≡ plan_lines plan.now (M.shown model.now price) tries }
 {
     let mut output = Output::empty();
     put_pairs(&mut output, plan);

@@ -1,8 +1,8 @@
 // The candidates of a row, and the best of them.
 ghost use Rattle.std.specs.Prelude.{◌≡◌, ◌+◌, ◌-◌, ◌<◌, ◌≤◌, is_some, if◌then◌else◌, None};
 ghost use Rattle.catalogue.specs.Asked.{asked};
-ghost use Rattle.plans.specs.Entries.{alone_entry, best_entry, better as better-of, joining_entry, row_entry as entry-by, testing_entry};
-ghost use Rattle.plans.specs.Recurrence.{found, splits as splits-at};
+ghost use Rattle.plans.specs.Entries.{alone_entry, best_entry, better as better_of, joining_entry, row_entry as entry_by, testing_entry};
+ghost use Rattle.plans.specs.Recurrence.{found, splits as splits_at};
 ghost use Rattle.sets.specs.Sets.{◌⊆◌};
 ghost use Rattle.solver.specs.Held.{held, tries_by};
 
@@ -24,7 +24,7 @@ fn better<M: PriceModel>(
     earlier: Option<Entry<M::Price>>,
     later: Option<Entry<M::Price>>,
 ) -> Option<Entry<M::Price>>
-    ensures { result ≡ better-of (M.PriceModel.meaning model.now) earlier later }
+    ensures { result ≡ better_of (M.meaning model.now) earlier later }
 {
     match (earlier, later) {
         (None, entry) => entry,
@@ -66,7 +66,7 @@ fn other_side(tables: SmallSet, left: SmallSet) -> SmallSet
 
 // Whether both sides of the tables cut at the left hold a table, and a tie links them.
 fn splits(catalogue: &Catalogue, tables: SmallSet, left: SmallSet) -> bool
-    ensures { result ≡ splits-at (asked catalogue.now) tables.bits left.bits }
+    ensures { result ≡ splits_at (asked catalogue.now) tables.bits left.bits }
 {
     if left.is_empty() {
         return false;
@@ -90,7 +90,7 @@ fn join_candidate<M: PriceModel>(
     left: SmallSet,
 ) -> Option<Entry<M::Price>>
     requires { choices.now.tested ≡ prices.now.tested }
-    ensures { result ≡ joining_entry (M.PriceModel.meaning model.now) (asked catalogue.now) (held prices.now.cells.now choices.now.cells.now prices.now.tested.bits) row.tables.bits row.tests.bits left.bits }
+    ensures { result ≡ joining_entry (M.meaning model.now) (asked catalogue.now) (held prices.now.cells.now choices.now.cells.now prices.now.tested.bits) row.tables.bits row.tests.bits left.bits }
 {
     if !splits(catalogue, row.tables, left) {
         return None;
@@ -134,7 +134,7 @@ fn test_candidate<M: PriceModel>(
     table: u8,
 ) -> Option<Entry<M::Price>>
     requires same { choices.now.tested ≡ prices.now.tested }
-    ensures { result ≡ testing_entry (M.PriceModel.meaning model.now) (asked catalogue.now) (held prices.now.cells.now choices.now.cells.now prices.now.tested.bits) row.tables.bits row.tests.bits table }
+    ensures { result ≡ testing_entry (M.meaning model.now) (asked catalogue.now) (held prices.now.cells.now choices.now.cells.now prices.now.tested.bits) row.tables.bits row.tests.bits table }
 {
     if !row.tests.contains(table) {
         return None;
@@ -164,7 +164,7 @@ fn table_candidate<M: PriceModel>(
     table: u8,
 ) -> Option<Entry<M::Price>>
     requires { table < 10 }
-    ensures { result ≡ alone_entry (M.PriceModel.meaning model.now) (asked catalogue.now) row.tables.bits row.tests.bits table }
+    ensures { result ≡ alone_entry (M.meaning model.now) (asked catalogue.now) row.tables.bits row.tests.bits table }
 {
     let Some(alone) = SmallSet::single(table) else {
         return None;
@@ -188,7 +188,7 @@ fn with_candidate<M: PriceModel>(
     candidate: Option<Entry<M::Price>>,
 ) -> Tried<M::Price>
     requires { so_far.tries < 1000000000 }
-    ensures best { result.best ≡ better-of (M.PriceModel.meaning model.now) so_far.best candidate }
+    ensures best { result.best ≡ better_of (M.meaning model.now) so_far.best candidate }
     ensures tries { result.tries ≡ so_far.tries + (if is_some candidate then 1 else 0) }
 {
     let more = if candidate.is_some() { 1 } else { 0 };
@@ -209,7 +209,7 @@ fn numbered_join<M: PriceModel>(
 ) -> Option<Entry<M::Price>>
     requires same { choices.now.tested ≡ prices.now.tested }
     requires few { number < 1024 }
-    ensures { result ≡ joining_entry (M.PriceModel.meaning model.now) (asked catalogue.now) (held prices.now.cells.now choices.now.cells.now prices.now.tested.bits) row.tables.bits row.tests.bits number }
+    ensures { result ≡ joining_entry (M.meaning model.now) (asked catalogue.now) (held prices.now.cells.now choices.now.cells.now prices.now.tested.bits) row.tables.bits row.tests.bits number }
 {
     match SmallSet::from_bits(number) {
         Some(left) => join_candidate(model, catalogue, prices, choices, row, left),
@@ -228,8 +228,8 @@ fn best_join<M: PriceModel>(
 ) -> Tried<M::Price>
     requires same { choices.now.tested ≡ prices.now.tested }
     requires few { earlier.tries ≤ 10 }
-    ensures best { result.best ≡ best_entry (M.PriceModel.meaning model.now) earlier.best (joining_entry (M.PriceModel.meaning model.now) (asked catalogue.now) (held prices.now.cells.now choices.now.cells.now prices.now.tested.bits) row.tables.bits row.tests.bits) row.tables.bits }
-    ensures tries { result.tries ≡ earlier.tries + found (joining_entry (M.PriceModel.meaning model.now) (asked catalogue.now) (held prices.now.cells.now choices.now.cells.now prices.now.tested.bits) row.tables.bits row.tests.bits) row.tables.bits }
+    ensures best { result.best ≡ best_entry (M.meaning model.now) earlier.best (joining_entry (M.meaning model.now) (asked catalogue.now) (held prices.now.cells.now choices.now.cells.now prices.now.tested.bits) row.tables.bits row.tests.bits) row.tables.bits }
+    ensures tries { result.tries ≡ earlier.tries + found (joining_entry (M.meaning model.now) (asked catalogue.now) (held prices.now.cells.now choices.now.cells.now prices.now.tested.bits) row.tables.bits row.tests.bits) row.tables.bits }
     ensures few { result.tries ≤ 2000 }
 {
     let mut so_far = earlier;
@@ -251,8 +251,8 @@ fn best_test<M: PriceModel>(
 ) -> Tried<M::Price>
     requires same { choices.now.tested ≡ prices.now.tested }
     requires few { earlier.tries ≤ 2000 }
-    ensures best { result.best ≡ best_entry (M.PriceModel.meaning model.now) earlier.best (testing_entry (M.PriceModel.meaning model.now) (asked catalogue.now) (held prices.now.cells.now choices.now.cells.now prices.now.tested.bits) row.tables.bits row.tests.bits) (asked catalogue.now).count }
-    ensures tries { result.tries ≡ earlier.tries + found (testing_entry (M.PriceModel.meaning model.now) (asked catalogue.now) (held prices.now.cells.now choices.now.cells.now prices.now.tested.bits) row.tables.bits row.tests.bits) (asked catalogue.now).count }
+    ensures best { result.best ≡ best_entry (M.meaning model.now) earlier.best (testing_entry (M.meaning model.now) (asked catalogue.now) (held prices.now.cells.now choices.now.cells.now prices.now.tested.bits) row.tables.bits row.tests.bits) (asked catalogue.now).count }
+    ensures tries { result.tries ≡ earlier.tries + found (testing_entry (M.meaning model.now) (asked catalogue.now) (held prices.now.cells.now choices.now.cells.now prices.now.tested.bits) row.tables.bits row.tests.bits) (asked catalogue.now).count }
     ensures few { result.tries ≤ 2010 }
 {
     let mut so_far = earlier;
@@ -265,7 +265,7 @@ fn best_test<M: PriceModel>(
 
 // A bare table, if the row is one.
 fn bare_table<M: PriceModel>(model: &M, catalogue: &Catalogue, row: Row) -> Option<Entry<M::Price>>
-    ensures { result ≡ best_entry (M.PriceModel.meaning model.now) None (alone_entry (M.PriceModel.meaning model.now) (asked catalogue.now) row.tables.bits row.tests.bits) (asked catalogue.now).count }
+    ensures { result ≡ best_entry (M.meaning model.now) None (alone_entry (M.meaning model.now) (asked catalogue.now) row.tables.bits row.tests.bits) (asked catalogue.now).count }
 {
     let mut best = None;
     for table in 0..catalogue.count() {
@@ -284,8 +284,8 @@ pub(crate) fn row_entry<M: PriceModel>(
     row: Row,
 ) -> Tried<M::Price>
     requires { choices.now.tested ≡ prices.now.tested }
-    ensures best { result.best ≡ entry-by (M.PriceModel.meaning model.now) (asked catalogue.now) (held prices.now.cells.now choices.now.cells.now prices.now.tested.bits) row.tables.bits row.tests.bits }
-    ensures tries { result.tries ≡ tries_by (M.PriceModel.meaning model.now) (asked catalogue.now) (held prices.now.cells.now choices.now.cells.now prices.now.tested.bits) row.tables.bits row.tests.bits }
+    ensures best { result.best ≡ entry_by (M.meaning model.now) (asked catalogue.now) (held prices.now.cells.now choices.now.cells.now prices.now.tested.bits) row.tables.bits row.tests.bits }
+    ensures tries { result.tries ≡ tries_by (M.meaning model.now) (asked catalogue.now) (held prices.now.cells.now choices.now.cells.now prices.now.tested.bits) row.tables.bits row.tests.bits }
     ensures few { result.tries ≤ 2010 }
 {
     let bare = Tried {

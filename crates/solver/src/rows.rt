@@ -1,7 +1,7 @@
 // Fills the lists, row by row.
 ghost use Rattle.std.specs.Prelude.{◌≡◌, ◌+◌, ◌<◌, ◌≤◌, length, set as updated};
 ghost use Rattle.catalogue.specs.Asked.{asked};
-ghost use Rattle.plans.specs.Entries.{row_entry as entry-by};
+ghost use Rattle.plans.specs.Entries.{row_entry as entry_by};
 ghost use Rattle.plans.specs.Questions.{all_tests, size};
 ghost use Rattle.plans.specs.Recurrence.{all_tries};
 ghost use Rattle.sets.specs.Rows.{place_of, row_count, tests_on};
@@ -46,12 +46,12 @@ fn solve_row<M: PriceModel>(
     row: Row,
 ) -> u64
     requires { choices.old.tested ≡ prices.old.tested }
-    ensures prices { prices.new.cells.now ≡ priced prices.old.cells.now (place_of prices.old.tested.bits row.tables.bits row.tests.bits) (entry-by (M.PriceModel.meaning model.now) (asked catalogue.now) (held prices.old.cells.now choices.old.cells.now prices.old.tested.bits) row.tables.bits row.tests.bits) }
+    ensures prices { prices.new.cells.now ≡ priced prices.old.cells.now (place_of prices.old.tested.bits row.tables.bits row.tests.bits) (entry_by (M.meaning model.now) (asked catalogue.now) (held prices.old.cells.now choices.old.cells.now prices.old.tested.bits) row.tables.bits row.tests.bits) }
     ensures sizes { sizes.new.cells.now ≡ updated sizes.old.cells.now (place_of sizes.old.tested.bits row.tables.bits row.tests.bits) (size (asked catalogue.now) row.tables.bits row.tests.bits) }
-    ensures choices { choices.new.cells.now ≡ updated choices.old.cells.now (place_of choices.old.tested.bits row.tables.bits row.tests.bits) (choice_of (entry-by (M.PriceModel.meaning model.now) (asked catalogue.now) (held prices.old.cells.now choices.old.cells.now prices.old.tested.bits) row.tables.bits row.tests.bits)) }
+    ensures choices { choices.new.cells.now ≡ updated choices.old.cells.now (place_of choices.old.tested.bits row.tables.bits row.tests.bits) (choice_of (entry_by (M.meaning model.now) (asked catalogue.now) (held prices.old.cells.now choices.old.cells.now prices.old.tested.bits) row.tables.bits row.tests.bits)) }
     ensures tested { (prices.new.tested ≡ prices.old.tested) × (sizes.new.tested ≡ sizes.old.tested) × (choices.new.tested ≡ choices.old.tested) }
     ensures lenders { (prices.new.cells.ghost_name ≡ prices.old.cells.ghost_name) × (sizes.new.cells.ghost_name ≡ sizes.old.cells.ghost_name) × (choices.new.cells.ghost_name ≡ choices.old.cells.ghost_name) }
-    ensures tries { result ≡ tries_by (M.PriceModel.meaning model.now) (asked catalogue.now) (held prices.old.cells.now choices.old.cells.now prices.old.tested.bits) row.tables.bits row.tests.bits }
+    ensures tries { result ≡ tries_by (M.meaning model.now) (asked catalogue.now) (held prices.old.cells.now choices.old.cells.now prices.old.tested.bits) row.tables.bits row.tests.bits }
     ensures few { result ≤ 2010 }
 {
     let found = row_entry(model, catalogue, prices, choices, row);
@@ -82,8 +82,8 @@ pub(crate) fn solve_rows<M: PriceModel>(
 ) -> u64
     requires all { rows ≡ row_count (asked catalogue.now).count (all_tests (asked catalogue.now)) }
     requires enough { (rows ≤ length prices.old) × (rows ≤ length sizes.old) × (rows ≤ length choices.old) }
-    ensures solved { Solved (M.PriceModel.meaning model.now) (asked catalogue.now) rows prices.old prices.new sizes.old sizes.new choices.old choices.new }
-    ensures tries { result ≡ all_tries (M.PriceModel.meaning model.now) (asked catalogue.now) }
+    ensures solved { Solved (M.meaning model.now) (asked catalogue.now) rows prices.old prices.new sizes.old sizes.new choices.old choices.new }
+    ensures tries { result ≡ all_tries (M.meaning model.now) (asked catalogue.now) }
 {
     let tested = catalogue.tests();
     let mut price_table = Ragged::over(prices, tested);

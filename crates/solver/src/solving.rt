@@ -3,7 +3,7 @@ ghost use Rattle.std.specs.Prelude.{◌≡◌, ◌≤◌, ◌&&◌, length, nat_
 ghost use Rattle.catalogue.specs.Asked.{asked};
 ghost use Rattle.plans.specs.Questions.{all_tables, all_tests};
 ghost use Rattle.plans.specs.Recurrence.{all_tries, opt};
-ghost use Rattle.solver.specs.Held.{price_at as price-in};
+ghost use Rattle.solver.specs.Held.{price_at as price_in};
 ghost use Rattle.solver.specs.Solved.{Solved};
 ghost use Rattle.std.specs.List.{slice_get};
 ghost use Rattle.solver.specs.Solves.{Answers, Cheapest, Lists, Readable, enough, filled, outcome, rows_of, solve_number, whole_plan};
@@ -31,7 +31,7 @@ impl SolveRefusal {
 
 // The price at a place, if there is a choice beside it.
 fn price_at<P: Copy>(prices: &[P], choices: &[u16], place: usize) -> Option<P>
-    ensures { result ≡ price-in (slice_get prices.now place) (slice_get choices.now place) }
+    ensures { result ≡ price_in (slice_get prices.now place) (slice_get choices.now place) }
 {
     if place >= prices.len() {
         return None;
@@ -53,9 +53,9 @@ fn whole<M: PriceModel>(
     choices: &[u16],
     tries: u64,
 ) -> Result<Solution<M::Price>, SolveRefusal>
-    requires readable { Readable (M.PriceModel.meaning model.now) (asked catalogue.now) prices.now choices.now }
-    requires tried { tries ≡ all_tries (M.PriceModel.meaning model.now) (asked catalogue.now) }
-    ensures { Answers (M.PriceModel.meaning model.now) (asked catalogue.now) (whole_plan (M.PriceModel.meaning model.now) (asked catalogue.now) (opt (M.PriceModel.meaning model.now) (asked catalogue.now) (all_tables (asked catalogue.now)) (all_tests (asked catalogue.now)))) result }
+    requires readable { Readable (M.meaning model.now) (asked catalogue.now) prices.now choices.now }
+    requires tried { tries ≡ all_tries (M.meaning model.now) (asked catalogue.now) }
+    ensures { Answers (M.meaning model.now) (asked catalogue.now) (whole_plan (M.meaning model.now) (asked catalogue.now) (opt (M.meaning model.now) (asked catalogue.now) (all_tables (asked catalogue.now)) (all_tests (asked catalogue.now)))) result }
 {
     let tested = catalogue.tests();
     let row = Row {
@@ -106,9 +106,9 @@ pub fn solve<M: PriceModel>(
     sizes: &mut [u32],
     choices: &mut [u16],
 ) -> Result<Solution<M::Price>, SolveRefusal>
-    ensures outcome { Answers (M.PriceModel.meaning model.now) (asked catalogue.now) (outcome (M.PriceModel.meaning model.now) (asked catalogue.now) (enough (asked catalogue.now) (length prices.old) (length sizes.old) (length choices.old))) result }
-    ensures cheapest { Cheapest (M.PriceModel.meaning model.now) (asked catalogue.now) result }
-    ensures lists { Lists (M.PriceModel.meaning model.now) (asked catalogue.now) (filled (asked catalogue.now) (length prices.old) (length sizes.old) (length choices.old)) prices.old prices.new sizes.old sizes.new choices.old choices.new }
+    ensures outcome { Answers (M.meaning model.now) (asked catalogue.now) (outcome (M.meaning model.now) (asked catalogue.now) (enough (asked catalogue.now) (length prices.old) (length sizes.old) (length choices.old))) result }
+    ensures cheapest { Cheapest (M.meaning model.now) (asked catalogue.now) result }
+    ensures lists { Lists (M.meaning model.now) (asked catalogue.now) (filled (asked catalogue.now) (length prices.old) (length sizes.old) (length choices.old)) prices.old prices.new sizes.old sizes.new choices.old choices.new }
 {
     if catalogue.count() == 0 {
         return Err(SolveRefusal::NoTables);

@@ -56,7 +56,7 @@ impl<M: PriceModel> Question<M> {
 
     // Adds a table and answers its number.
     pub fn table(&mut self, rows: u32) -> Result<u8, ChangeRefusal>
-        ensures made { Made M.PriceModel.meaning self.old (add_table rows) (placed_of result) self.new }
+        ensures made { Made M.meaning self.old (add_table rows) (placed_of result) self.new }
         ensures outcome { Follows (tabled (asked self.old.held.catalogue) rows) (asked self.old.held.catalogue) result (asked self.new.held.catalogue) }
     {
         let mut catalogue = self.held.catalogue;
@@ -74,7 +74,7 @@ impl<M: PriceModel> Question<M> {
         q: u16,
         cost: u16,
     ) -> Result<(), ChangeRefusal>
-        ensures made { Made M.PriceModel.meaning self.old (set_tie table other p q cost) (done_of result) self.new }
+        ensures made { Made M.meaning self.old (set_tie table other p q cost) (done_of result) self.new }
         ensures outcome { Follows (tied (asked self.old.held.catalogue) table other p q cost) (asked self.old.held.catalogue) result (asked self.new.held.catalogue) }
     {
         let mut catalogue = self.held.catalogue;
@@ -92,7 +92,7 @@ impl<M: PriceModel> Question<M> {
         cost: u16,
         kind: u8,
     ) -> Result<(), ChangeRefusal>
-        ensures made { Made M.PriceModel.meaning self.old (set_test table p q cost kind) (done_of result) self.new }
+        ensures made { Made M.meaning self.old (set_test table p q cost kind) (done_of result) self.new }
         ensures outcome { Follows (tested (asked self.old.held.catalogue) table p q cost kind) (asked self.old.held.catalogue) result (asked self.new.held.catalogue) }
     {
         let mut catalogue = self.held.catalogue;
@@ -103,7 +103,7 @@ impl<M: PriceModel> Question<M> {
 
     // Adds to the cost of a table's test, exactly.
     pub fn correct(&mut self, table: u8, by: i32) -> Result<(), ChangeRefusal>
-        ensures made { Made M.PriceModel.meaning self.old (correct_test table by) (done_of result) self.new }
+        ensures made { Made M.meaning self.old (correct_test table by) (done_of result) self.new }
         ensures outcome { Follows (corrected (asked self.old.held.catalogue) table by) (asked self.old.held.catalogue) result (asked self.new.held.catalogue) }
     {
         let mut catalogue = self.held.catalogue;

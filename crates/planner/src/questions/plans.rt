@@ -20,9 +20,9 @@ impl<M: PriceModel> Question<M> {
         sizes: &mut [u32],
         choices: &mut [u16],
     ) -> Result<(u64, M::Price), SolveRefusal>
-        ensures made { Made M.PriceModel.meaning self.old (solve_with (length prices.old) (length sizes.old) (length choices.old)) (solved_of result) self.new }
-        ensures promise { Promised M.PriceModel.meaning self.old (solve_with (length prices.old) (length sizes.old) (length choices.old)) (solved_of result) self.new }
-        ensures lists { Lists (M.PriceModel.meaning self.old.model) (asked self.old.held.catalogue) (filled (asked self.old.held.catalogue) (length prices.old) (length sizes.old) (length choices.old)) prices.old prices.new sizes.old sizes.new choices.old choices.new }
+        ensures made { Made M.meaning self.old (solve_with (length prices.old) (length sizes.old) (length choices.old)) (solved_of result) self.new }
+        ensures promise { Promised M.meaning self.old (solve_with (length prices.old) (length sizes.old) (length choices.old)) (solved_of result) self.new }
+        ensures lists { Lists (M.meaning self.old.model) (asked self.old.held.catalogue) (filled (asked self.old.held.catalogue) (length prices.old) (length sizes.old) (length choices.old)) prices.old prices.new sizes.old sizes.new choices.old choices.new }
     {
         let found = solve(&self.model, &self.held.catalogue, prices, sizes, choices)?;
         self.held.standing = Some(found);
@@ -31,8 +31,8 @@ impl<M: PriceModel> Question<M> {
 
     // Writes the plan that stands at the front of the buffer, and answers the number of its bytes and its price.
     pub fn tell(&self, buffer: &mut [u8]) -> Result<(usize, M::Price), TellRefusal>
-        ensures made { Made M.PriceModel.meaning self.now (tell_into (length buffer.old)) (told_of buffer.new result) self.now }
-        ensures promise { Asked M.PriceModel.meaning self.now → Promised M.PriceModel.meaning self.now (tell_into (length buffer.old)) (told_of buffer.new result) self.now }
+        ensures made { Made M.meaning self.now (tell_into (length buffer.old)) (told_of buffer.new result) self.now }
+        ensures promise { Asked M.meaning self.now → Promised M.meaning self.now (tell_into (length buffer.old)) (told_of buffer.new result) self.now }
         ensures rest { MatchResult result (λ told. (told.0 ≤ length buffer.old) × (drop told.0 buffer.new ≡ drop told.0 buffer.old)) (λ _. buffer.new ≡ buffer.old) }
     {
         let Some(standing) = self.held.standing else {
@@ -48,8 +48,8 @@ impl<M: PriceModel> Question<M> {
     // The price of the valid plan that the bytes spell. Entry k of the list takes the price of the last operation
     // whose result lay above exactly k unjoined parts; a refusal leaves the list as it was.
     pub fn check(&self, bytes: &[u8], prices: &mut [M::Price]) -> Result<M::Price, CheckRefusal>
-        ensures made { Made M.PriceModel.meaning self.now (check_plan bytes.now (length prices.old)) (checked_of result) self.now }
-        ensures lists { Checked (M.PriceModel.meaning self.now.model) (asked self.now.held.catalogue) bytes.now prices.old result prices.new }
+        ensures made { Made M.meaning self.now (check_plan bytes.now (length prices.old)) (checked_of result) self.now }
+        ensures lists { Checked (M.meaning self.now.model) (asked self.now.held.catalogue) bytes.now prices.old result prices.new }
     {
         check(&self.model, &self.held.catalogue, bytes, prices)
     }
