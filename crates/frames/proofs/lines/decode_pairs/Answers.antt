@@ -1,37 +1,37 @@
 use Rattle.std.proofs.Common.{◌≡◌, ◌≤◌, [], length, sym, ap, ◌∙◌, arith, length-take, ltb-false, ltb-true, eqb-true}
-use borrow.Author.Tests.{eqb_false}
+use borrow.Author.Tests.{eqb-false}
 use Rattle.std.proofs.lemmas.List.{nil_from_length}
 use Rattle.frames.specs.Decoding.{decoded_bytes}
 use Rattle.frames.specs.Lines.{pairs}
 use Rattle.frames.proofs.Keeping.{ten_after, ten_after_all, ten_after_more, pairs_none, pairs_odd, pairs_refused}
 use Rattle.frames.proofs.lines.decode_pairs.Goals as goal
 
-pub returns-in-err-byte : goal.returns-in-err-byte
-returns-in-err-byte c =
+pub returns-in_err-byte : goal.returns-in_err-byte
+returns-in_err-byte c =
     let rest = c.loop-rest.rest.now in
     let two : 2 ≤ length rest = omega (arith, ltb-false) in
-    rw c.from-residual.ensures
-    (sym (ap (ten_after (decoded_bytes c.loop-rest.decoded)) (pairs_refused rest two c.in-err-byte.ensures)) ∙ c.loop-rest.invariant)
+    rw c.from_residual.ensures
+    (sym (ap (ten_after (decoded_bytes c.loop-rest.decoded)) (pairs_refused rest two c.in_err-byte.ensures)) ∙ c.loop-rest.invariant)
 
 pub loop-rest-preserved : goal.loop-rest-preserved
 loop-rest-preserved c =
     let rest = c.loop-rest.rest.now in
     let two : 2 ≤ length rest = omega (arith, ltb-false) in
-    ten_after_more (decoded_bytes c.loop-rest.decoded) (decoded_bytes c.keep.new.self) rest c.in-ok-byte.field-0 two
-    c.in-ok-byte.ensures c.keep.ensures
+    ten_after_more (decoded_bytes c.loop-rest.decoded) (decoded_bytes c.keep.new.self) rest c.in_ok-byte.field-0 two
+    c.in_ok-byte.ensures c.keep.ensures
     ∙ c.loop-rest.invariant
 
-pub returns-then-is-empty : goal.returns-then-is-empty
-returns-then-is-empty c =
+pub returns-then-is_empty : goal.returns-then-is_empty
+returns-then-is_empty c =
     let rest = c.loop-rest.rest.now in
     let d = c.loop-rest.decoded in
-    let none : rest ≡ [] = nil_from_length rest (eqb-true _ _ (sym c.if-is-empty.ensures)) in
+    let none : rest ≡ [] = nil_from_length rest (eqb-true _ _ (sym c.if-is_empty.ensures)) in
     let few : length (decoded_bytes d) ≤ 10 = omega (arith, length-take d.count d.bytes, d.fits) in
     sym (ten_after_all (decoded_bytes d) few) ∙ sym (ap (ten_after (decoded_bytes d)) (ap pairs none ∙ pairs_none)) ∙ c.loop-rest.invariant
 
-pub returns-else-is-empty : goal.returns-else-is-empty
-returns-else-is-empty c =
+pub returns-else-is_empty : goal.returns-else-is_empty
+returns-else-is_empty c =
     let rest = c.loop-rest.rest.now in
-    let some = eqb_false _ _ (sym c.if-is-empty.ensures) in
+    let some = eqb-false _ _ (sym c.if-is_empty.ensures) in
     let one : length rest ≡ 1 = omega (arith, ltb-true) in
     sym (ap (ten_after (decoded_bytes c.loop-rest.decoded)) (pairs_odd rest one)) ∙ c.loop-rest.invariant

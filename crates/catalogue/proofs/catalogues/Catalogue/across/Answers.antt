@@ -9,7 +9,7 @@ loop-table-init c = (sym (sum_none _), omega arith)
 
 pub loop-table-preserved : goal.loop-table-preserved
 loop-table-preserved c =
-    (sum_more _ c.loop-table.table c.loop-table.sum _ c.loop-table.invariant.0 c.costs-from-sum.ensures.value, omega (arith, c.loop-table.invariant.1, c.costs-from-sum.ensures.bound))
+    (sum_more _ c.loop-table.table c.loop-table.sum _ c.loop-table.invariant.0 c.costs_from-sum.ensures.value, omega (arith, c.loop-table.invariant.1, c.costs_from-sum.ensures.bound))
 
 pub returns : goal.returns
 unfolding across

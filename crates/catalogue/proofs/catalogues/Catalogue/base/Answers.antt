@@ -27,14 +27,14 @@ returns-in-Some c = record {
   bound = omega (arith, c.scaled.ensures.bound, c.args.self.now.room c.args.table);
 }
 
-pub returns-in-default : goal.returns-in-default
-returns-in-default c = record {
+pub returns-in_default : goal.returns-in_default
+returns-in_default c = record {
   value = without _ _ c.args.table (Some c.in-Some.test) c.in-Some.ensures.value c.if-contains.ensures;
   bound = c.args.self.now.room c.args.table;
 }
 
-pub returns-in-default·2 : goal.returns-in-default·2
-returns-in-default·2 c = record {
-  value = none _ _ c.args.table c.in-default.ensures.value;
+pub returns-in_default-2 : goal.returns-in_default-2
+returns-in_default-2 c = record {
+  value = none _ _ c.args.table c.in_default.ensures.value;
   bound = c.args.self.now.room c.args.table;
 }

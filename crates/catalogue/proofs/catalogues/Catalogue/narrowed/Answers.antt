@@ -14,8 +14,8 @@ loop-other-preserved c =
     let R = c.args.tables.bits in
     elim c.if-contains.branch [
       | then-contains w ↦ (
-        narrowed_in Q c.args.table j m R c.loop-other.left _ c.loop-other-test.true w.if-contains.ensures (w.left-is ∙ w.tied-rows-left.ensures.value) ∙ c.loop-other.invariant.0,
-        omega (arith, w.left-is, w.tied-rows-left.ensures.bound),
+        narrowed_in Q c.args.table j m R c.loop-other.left _ c.loop-other-test.true w.if-contains.ensures (w.left-is ∙ w.tied_rows-left.ensures.value) ∙ c.loop-other.invariant.0,
+        omega (arith, w.left-is, w.tied_rows-left.ensures.bound),
       )
       | else-contains w ↦ (
         narrowed_out Q c.args.table j m R _ c.loop-other-test.true w.if-contains.ensures ∙ ap (narrowed Q c.args.table (from j m R)) w.left-is ∙ c.loop-other.invariant.0,

@@ -5,32 +5,19 @@ use Rattle.catalogue.specs.Fair.{tie_p, tie_q, test_p, test_q}
 use Rattle.catalogue.proofs.Places.{each_same, cond_same, same_question}
 use Rattle.catalogue.proofs.catalogues.Catalogue.new.Goals as goal
 
-pub invariant-of-result : goal.invariant-of-result
-invariant-of-result c = (
-  omega arith,
-  (
-    refl,
-    (
-      refl,
-      (
-        refl,
-        (
-          λ i. subst (λ (n : ℕ). n ≤ 16777215) (sym (each_same 0 10 i)) (omega arith),
-          (
-            λ k. subst (λ (t : Option Tie). 1 ≤ tie_q t) (sym (each_same None 100 k)) (omega arith),
-            (
-              λ k. subst (λ (t : Option Tie). tie_p t ≤ tie_q t) (sym (each_same None 100 k)) (omega arith),
-              (
-                λ i. subst (λ (t : Option Test). 1 ≤ test_q t) (sym (each_same None 10 i)) (omega arith),
-                (λ i. subst (λ (t : Option Test). test_p t ≤ test_q t) (sym (each_same None 10 i)) (omega arith), tt),
-              ),
-            ),
-          ),
-        ),
-      ),
-    ),
-  ),
-)
+pub invariant_of-result : goal.invariant_of-result
+invariant_of-result c =
+    record {
+      few = omega arith;
+      ten_rows = refl;
+      all_ties = refl;
+      ten_tests = refl;
+      room = λ i. subst (λ (n : ℕ). n ≤ 16777215) (sym (each_same 0 10 i)) (omega arith);
+      tie_whole = λ k. subst (λ (t : Option Tie). 1 ≤ tie_q t) (sym (each_same None 100 k)) (omega arith);
+      tie_part = λ k. subst (λ (t : Option Tie). tie_p t ≤ tie_q t) (sym (each_same None 100 k)) (omega arith);
+      test_whole = λ i. subst (λ (t : Option Test). 1 ≤ test_q t) (sym (each_same None 10 i)) (omega arith);
+      test_part = λ i. subst (λ (t : Option Test). test_p t ≤ test_q t) (sym (each_same None 10 i)) (omega arith);
+    }
 
 pub returns : goal.returns
 returns c =

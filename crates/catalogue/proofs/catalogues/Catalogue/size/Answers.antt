@@ -11,8 +11,8 @@ loop-table-init c = (sym (size_none (asked c.args.self.now) c.args.tests.bits _ 
 pub loop-table-preserved-then-contains : goal.loop-table-preserved-then-contains
 loop-table-preserved-then-contains c = (
   size_down_in (asked c.args.self.now) c.args.tests.bits c.loop-table.table c.args.self.now.count c.args.tables.bits c.loop-table.size _
-      c.loop-table-test.true c.loop-table.auto.table c.if-contains.ensures c.loop-table.invariant.0 c.size-above-size.ensures.value,
-  omega (arith, c.size-above-size.ensures.value),
+      c.loop-table-test.true c.loop-table.auto.table c.if-contains.ensures c.loop-table.invariant.0 c.size_above-size.ensures.value,
+  omega (arith, c.size_above-size.ensures.value),
 )
 
 pub loop-table-preserved : goal.loop-table-preserved

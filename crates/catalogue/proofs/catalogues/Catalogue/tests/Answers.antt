@@ -10,8 +10,8 @@ loop-table-init c = (c.empty-tests.ensures ∙ sym (sum_none _), omega (arith, c
 
 pub loop-table-preserved : goal.loop-table-preserved
 loop-table-preserved c = (
-  c.with-test-tests.ensures ∙ sum_more _ c.loop-table.table c.loop-table.tests.bits _ c.loop-table.invariant.0 refl,
-  still_below c.loop-table.tests.bits c.loop-table.table _ _ c.loop-table.invariant.1 c.with-test-tests.ensures,
+  c.with_test-tests.ensures ∙ sum_more _ c.loop-table.table c.loop-table.tests.bits _ c.loop-table.invariant.0 refl,
+  still_below c.loop-table.tests.bits c.loop-table.table _ _ c.loop-table.invariant.1 c.with_test-tests.ensures,
 )
 
 pub returns : goal.returns
