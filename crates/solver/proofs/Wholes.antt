@@ -94,7 +94,7 @@ module _ {P : Type 0} (m : Model P) (Q : Question) (prices : List P) (choices : 
   leads p e =
       plans_led_to m Q (choice_in choices (all_tests Q))
       (λ r s row. nth_there choices (place Q r s) (code (opt m Q r s)) 0
-      (h.choices_are r s (own_by Q r s row.own_val row.tests) (place_lt Q.count (all_tests Q) r s (tests_below Q) row.given)))
+      (h.choices_are r s (own_by Q r s row.own row.tests) (place_lt Q.count (all_tests Q) r s (tests_below Q) row.given)))
       (all_tables Q) (all_tests Q) p (record { given = full_given; own = all_tests_part Q; tests = and_self (all_tests Q) }) e
 
   -- The plan that is there has the price that was found.

@@ -16,15 +16,15 @@ unreachable-requires g c =
     let Q = asked c.args.catalogue.now in
     let i = c.loop-left.invariant in
     let two : 2 ≤ length c.loop-left.left.now = search rules in
-    none_valid Q c.args.bytes.now (turned_away Q c.args.bytes.now c.loop-left.left.now i.0 c.take.new.self two i.1 (c.in-default-take.ensures i.0 i.2)) c.requires.valid
+    none_valid Q c.args.bytes.now (turned_away Q c.args.bytes.now c.loop-left.left.now i.0 c.take.new.self two i.1 (c.in_default-take.ensures i.0 i.2)) c.requires.valid
 
 pub loop-left-preserved : goal.loop-left-preserved
 loop-left-preserved g c =
     let i = c.loop-left.invariant in
     let two : 2 ≤ length c.loop-left.left.now = search rules in
     priced_turn (g.M.PriceModel.meaning c.args.model.now) (asked c.args.catalogue.now) c.args.bytes.now c.loop-left.left.now i.0 c.loop-left.parts c.take.new.self
-    c.args.prices.now c.loop-left.prices c.in-Some.done c.price-of-price.result two i.1 i.2 i.3 c.args.catalogue.now.room
-    (omega (arith, c.requires.room, c.loop-left.auto.prices)) (c.in-Some.ensures i.0 i.2) c.price-of-price.ensures
+    c.args.prices.now c.loop-left.prices c.in-Some.done c.price_of-price.result two i.1 i.2 i.3 c.args.catalogue.now.room
+    (omega (arith, c.requires.room, c.loop-left.auto.prices)) (c.in-Some.ensures i.0 i.2) c.price_of-price.ensures
 
 pub returns : goal.returns
 returns g c =

@@ -7,8 +7,8 @@ loop-number-init g c = tries_none _ _ _ _ 0 refl
 
 pub loop-number-preserved : goal.loop-number-preserved
 loop-number-preserved g c =
-    tries_more _ _ _ _ c.loop-number.number c.loop-number.so_far.best _ c.loop-number.so_far.tries _ c.numbered-join-candidate.result
-    c.loop-number.invariant c.numbered-join-candidate.ensures c.with-candidate-so-far.ensures.best c.with-candidate-so-far.ensures.tries
+    tries_more _ _ _ _ c.loop-number.number c.loop-number.so_far.best _ c.loop-number.so_far.tries _ c.numbered_join-candidate.result
+    c.loop-number.invariant c.numbered_join-candidate.ensures c.with_candidate-so_far.ensures.best c.with_candidate-so_far.ensures.tries
 
 pub returns : goal.returns
 returns g c =

@@ -7,8 +7,8 @@ loop-table-init g c = tries_none _ _ _ _ 0 refl
 
 pub loop-table-preserved : goal.loop-table-preserved
 loop-table-preserved g c =
-    tries_more _ _ _ _ c.loop-table.table c.loop-table.so_far.best _ c.loop-table.so_far.tries _ c.test-candidate-candidate.result
-    c.loop-table.invariant c.test-candidate-candidate.ensures c.with-candidate-so-far.ensures.best c.with-candidate-so-far.ensures.tries
+    tries_more _ _ _ _ c.loop-table.table c.loop-table.so_far.best _ c.loop-table.so_far.tries _ c.test_candidate-candidate.result
+    c.loop-table.invariant c.test_candidate-candidate.ensures c.with_candidate-so_far.ensures.best c.with_candidate-so_far.ensures.tries
 
 pub returns : goal.returns
 returns g c =

@@ -3,5 +3,5 @@ use Rattle.catalogue.specs.Asked.{asked}
 use Rattle.plans.proofs.Rows.{split_facts}
 use Rattle.solver.proofs.candidates.join_candidate.Goals as goal
 
-pub other-side-right-requires : goal.other-side-right-requires
-other-side-right-requires g c = (split_facts (asked c.args.catalogue.now) c.args.row.tables.bits c.args.left.bits (sym c.if-not-splits.ensures)).part
+pub other_side-right-requires : goal.other_side-right-requires
+other_side-right-requires g c = (split_facts (asked c.args.catalogue.now) c.args.row.tables.bits c.args.left.bits (sym c.if-not-splits.ensures)).part

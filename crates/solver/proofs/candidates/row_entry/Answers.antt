@@ -13,7 +13,7 @@ returns g c =
     let R = c.args.row.tables.bits in
     let S = c.args.row.tests.bits in
     record {
-      best = c.best-test.ensures.best ∙ ap (λ e. best_entry m e (testing_entry m Q table R S) Q.count) (c.best-join-joined.ensures.best ∙ ap (λ e. best_entry m e (joining_entry m Q table R S) R) c.bare-table.ensures);
-      tries = omega (arith, c.best-test.ensures.tries, c.best-join-joined.ensures.tries);
-      few = c.best-test.ensures.few;
+      best = c.best_test.ensures.best ∙ ap (λ e. best_entry m e (testing_entry m Q table R S) Q.count) (c.best_join-joined.ensures.best ∙ ap (λ e. best_entry m e (joining_entry m Q table R S) R) c.bare_table.ensures);
+      tries = omega (arith, c.best_test.ensures.tries, c.best_join-joined.ensures.tries);
+      few = c.best_test.ensures.few;
     }

@@ -6,18 +6,18 @@ use Rattle.checker.proofs.parts.Parts.take.Goals as goal
 
 pub returns-in-16 : goal.returns-in-16
 returns-in-16 c = λ parts h.
-    subst (λ o. Took (asked c.args.catalogue.now) parts o c.add-table.result c.add-table.new.self) (step_table _ c.args.first c.args.second parts (omega arith)) (c.add-table.ensures parts h)
+    subst (λ o. Took (asked c.args.catalogue.now) parts o c.add_table.result c.add_table.new.self) (step_table _ c.args.first c.args.second parts (omega arith)) (c.add_table.ensures parts h)
 
 pub returns-in-17 : goal.returns-in-17
 returns-in-17 c = λ parts h.
-    subst (λ o. Took (asked c.args.catalogue.now) parts o c.add-test.result c.add-test.new.self) (step_test _ c.args.first c.args.second parts (omega arith)) (c.add-test.ensures parts h)
+    subst (λ o. Took (asked c.args.catalogue.now) parts o c.add_test.result c.add_test.new.self) (step_test _ c.args.first c.args.second parts (omega arith)) (c.add_test.ensures parts h)
 
 pub returns-in-18 : goal.returns-in-18
 returns-in-18 c = λ parts h.
-    subst (λ o. Took (asked c.args.catalogue.now) parts o c.add-join.result c.add-join.new.self) (step_join _ c.args.first c.args.second parts (omega arith) (omega arith)) (c.add-join.ensures parts h)
+    subst (λ o. Took (asked c.args.catalogue.now) parts o c.add_join.result c.add_join.new.self) (step_join _ c.args.first c.args.second parts (omega arith) (omega arith)) (c.add_join.ensures parts h)
 
-pub returns-in-default : goal.returns-in-default
-returns-in-default c = λ parts h. none_taken _ c.args.first c.args.second parts _ (omega arith) (omega arith) (λ e. omega arith)
+pub returns-in_default : goal.returns-in_default
+returns-in_default c = λ parts h. none_taken _ c.args.first c.args.second parts _ (omega arith) (omega arith) (λ e. omega arith)
 
-pub returns-in-default·2 : goal.returns-in-default·2
-returns-in-default·2 c = λ parts h. none_taken _ c.args.first c.args.second parts _ (omega arith) (omega arith) (λ e. omega arith)
+pub returns-in_default-2 : goal.returns-in_default-2
+returns-in_default-2 c = λ parts h. none_taken _ c.args.first c.args.second parts _ (omega arith) (omega arith) (λ e. omega arith)
