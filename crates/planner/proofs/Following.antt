@@ -10,6 +10,7 @@ use Rattle.catalogue.specs.Asked.{asked}
 use Rattle.solver.specs.Solves.{enough, outcome, solve_number}
 use Rattle.solver.specs.declared.solutions.SolveRefusal.{SolveRefusal}
 use Rattle.solver.specs.declared.solutions.SolveRefusal.TheVariants.{NoTables, ListTooShort, NoPlan, PastCount}
+use Rattle.pricing.specs.declared.models.PriceModel.{Ghosts}
 use Rattle.planner.specs.declared.questions.Question.{Question}
 use Rattle.planner.specs.Calls.{Answer, refused, solve_with, solved, tell_into, told}
 use Rattle.planner.specs.Law.{ToldTrue}
@@ -35,7 +36,7 @@ solve_known e f n = sym (solve_back e) ∙ ap solve_named n ∙ solve_back f
 
 -- ---- a solve, and a tell after it
 
-module _ {M P : Type 0} (meaning : M → Model P) (laws : (x : M) → Lawful (meaning x)) (q r : Question M P) (ps ss cs : ℕ) where
+module _ {M P : Type 0} {G : Ghosts M P} (meaning : M → Model P) (laws : (x : M) → Lawful (meaning x)) (q r : Question M P G) (ps ss cs : ℕ) where
   -- A solve leaves tables, ties and tests as they are.
   pub solve_keeps : (a : Answer P) → Made meaning q (solve_with ps ss cs) a r → asked r.held.catalogue ≡ asked q.held.catalogue
   solve_keeps a made = gives (meaning q.model) (laws q.model) (state_of q.held) (solve_with ps ss cs) a (state_of r.held) made.step
@@ -52,7 +53,7 @@ module _ {M P : Type 0} (meaning : M → Model P) (laws : (x : M) → Lawful (me
 
 -- ---- which plan that is
 
-module _ {M P : Type 0} (meaning : M → Model P) (q r : Question M P) (ps ss cs : ℕ) where
+module _ {M P : Type 0} {G : Ghosts M P} (meaning : M → Model P) (q r : Question M P G) (ps ss cs : ℕ) where
   abbrev pub Found : Plan → Type 0
   Found p = outcome (meaning q.model) (asked q.held.catalogue) (enough (asked q.held.catalogue) ps ss cs) ≡ Ok p
 

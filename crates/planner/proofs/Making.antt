@@ -4,6 +4,7 @@ use mathlib.Core.List.{map-append}
 use Rattle.std.proofs.lemmas.List.{take_more, take_more_set}
 use Rattle.pricing.specs.Models.{Model, Lawful}
 use Rattle.planner.specs.declared.calls.Call as code
+use Rattle.pricing.specs.declared.models.PriceModel.{Ghosts}
 use Rattle.planner.specs.declared.questions.Question.{Question}
 use Rattle.catalogue.specs.Asked.{asked}
 use Rattle.planner.specs.Calls.{Answer}
@@ -24,7 +25,7 @@ listed_more R f g s t u calls replies i d y in_calls in_replies run next =
     (subst (λ ys. Run R s (map f (take i calls) ++ f (get_or calls i d) ∷ []) ys u) (sym (ap (map g) (take_more_set replies i y in_replies) ∙ map-append g (take i replies) (y ∷ [])))
     (run_more R (map f (take i calls)) (map g (take i replies)) s t u (f (get_or calls i d)) (g y) run next))
 
-module _ {M P : Type 0} (meaning : M → Model P) (laws : (x : M) → Lawful (meaning x)) (start : M) (q r : Question M P) (kept : q.model ≡ start) (c : code.Call) (a : Answer P) (l k : Lent P)
+module _ {M P : Type 0} {G : Ghosts M P} (meaning : M → Model P) (laws : (x : M) → Lawful (meaning x)) (start : M) (q r : Question M P G) (kept : q.model ≡ start) (c : code.Call) (a : Answer P) (l k : Lent P)
     (sound : Sound (meaning start) (state_of q.held)) (ps ss cs : ℕ)
     (made : Made meaning q (call_of (length l.prices) (length l.sizes) (length l.choices) c) a r)
     (lists : Leaves (meaning q.model) (asked q.held.catalogue) (call_of (length l.prices) (length l.sizes) (length l.choices) c) a l k)

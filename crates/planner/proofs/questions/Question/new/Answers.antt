@@ -1,5 +1,5 @@
 use Rattle.std.proofs.Common.{arith}
 use Rattle.planner.proofs.questions.Question.new.Goals as goal
 
-pub invariant-of-result : goal.invariant-of-result
-invariant-of-result g c = (omega arith, (omega arith, (∣ tt ∣₁, tt)))
+pub invariant_of-result : goal.invariant_of-result
+invariant_of-result g c = record { short = omega arith; within = omega arith; valid = ∣ tt ∣₁ }

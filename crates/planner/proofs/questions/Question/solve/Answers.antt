@@ -8,9 +8,9 @@ use Rattle.planner.proofs.Promise.{decided}
 use Rattle.planner.proofs.Solving.{refused_step, solved_step, stands_short, stands_valid, stands_within}
 use Rattle.planner.proofs.questions.Question.solve.Goals as goal
 
-pub returns-in-err-found : goal.returns-in-err-found
-returns-in-err-found g c =
-    let p = err_from_is_err_and c.from-residual.result c.from-residual.ensures.1 in
+pub returns-in_err-found : goal.returns-in_err-found
+returns-in_err-found g c =
+    let p = err_from_is_err_and c.from_residual.result c.from_residual.ensures.1 in
     let q = c.args.self.now in
     let m = g.M.PriceModel.meaning q.model in
     let laws = g.met.M.PriceModel.lawful q.model in
@@ -18,25 +18,27 @@ returns-in-err-found g c =
     let ps = length c.args.prices.now in
     let ss = length c.args.sizes.now in
     let cs = length c.args.choices.now in
-    let step = refused_step m (state_of q.held) Q (outcome m Q (enough Q ps ss cs)) c.in-err-found.field-0.0 c.in-err-found.ensures.outcome in
+    let step = refused_step m (state_of q.held) Q (outcome m Q (enough Q ps ss cs)) c.in_err-found.field-0.0 c.in_err-found.ensures.outcome in
     rw (p.1, p.2) (record {
       made = record { model = refl; step = step };
       promise = decided m laws (state_of q.held) _ _ ps ss cs step;
-      lists = c.in-err-found.ensures.lists;
+      lists = c.in_err-found.ensures.lists;
     })
 
-pub invariant-of-self-2 : goal.invariant-of-self-2
-invariant-of-self-2 g c =
+pub invariant_of-self-2 : goal.invariant_of-self-2
+invariant_of-self-2 g c =
     let q = c.args.self.now in
     let m = g.M.PriceModel.meaning q.model in
     let laws = g.met.M.PriceModel.lawful q.model in
     let Q = asked q.held.catalogue in
     let room = enough Q (length c.args.prices.now) (length c.args.sizes.now) (length c.args.choices.now) in
-    let x = c.in-ok-found.found in
-    let t = c.in-ok-found.ensures.outcome in (
-      stands_short m laws Q q.held.catalogue.few room x t,
-      (stands_within m laws Q q.held.catalogue.few room x t, (∣ stands_valid m laws Q q.held.catalogue.few room x t ∣₁, tt)),
-    )
+    let x = c.in_ok-found.found in
+    let t = c.in_ok-found.ensures.outcome in
+    record {
+      short = stands_short m laws Q q.held.catalogue.few room x t;
+      within = stands_within m laws Q q.held.catalogue.few room x t;
+      valid = ∣ stands_valid m laws Q q.held.catalogue.few room x t ∣₁;
+    }
 
 pub returns : goal.returns
 returns g c =
@@ -47,9 +49,9 @@ returns g c =
     let ps = length c.args.prices.now in
     let ss = length c.args.sizes.now in
     let cs = length c.args.choices.now in
-    let step = solved_step m q.held (outcome m Q (enough Q ps ss cs)) c.in-ok-found.found c.in-ok-found.ensures.outcome in
+    let step = solved_step m q.held (outcome m Q (enough Q ps ss cs)) c.in_ok-found.found c.in_ok-found.ensures.outcome in
     record {
       made = record { model = refl; step = step };
       promise = decided m laws (state_of q.held) _ _ ps ss cs step;
-      lists = c.in-ok-found.ensures.lists;
+      lists = c.in_ok-found.ensures.lists;
     }

@@ -23,8 +23,8 @@ returns-then-buffer-standing g c =
       rest = refl;
     }
 
-pub shared-ref-as-front·copy-from-slice : goal.shared-ref-as-front·copy-from-slice
-shared-ref-as-front·copy-from-slice g c = subst (λ o. told_len o ≤ 58) c.in-Some.is c.args.self.now.short
+pub shared_ref_as_front-copy_from_slice : goal.shared_ref_as_front-copy_from_slice
+shared_ref_as_front-copy_from_slice g c = subst (λ o. told_len o ≤ 58) c.in-Some.is c.args.self.now.short
 
 pub returns : goal.returns
 returns g c =
@@ -36,14 +36,14 @@ returns g c =
     let y : Stood g.row.M-Price.Denot = record { plan = take x.len x.bytes; price = x.price; tries = x.tries } in
     let within : x.len ≤ length x.bytes = subst (λ o. told_len o ≤ told_room o) c.in-Some.is c.args.self.now.within in
     let long : length (take x.len x.bytes) ≡ x.len = simp length-take (omega arith) in
-    let after = c.copy-from-slice.ensures.after in
-    let wrote : length c.copy-from-slice.new.self ≡ x.len = ap length after ∙ long in
-    let bytes : List ℕ = take x.len (c.copy-from-slice.new.self ++ drop x.len out) in
+    let after = c.copy_from_slice.ensures.after in
+    let wrote : length c.copy_from_slice.new.self ≡ x.len = ap length after ∙ long in
+    let bytes : List ℕ = take x.len (c.copy_from_slice.new.self ++ drop x.len out) in
     let fits : length (take x.len x.bytes) ≤ length out = omega arith in
     let step : Step m s (tell_into (length out)) (told bytes x.price) s =
-    tell_long m s y (length out) (ap stood_of c.in-Some.is) bytes fits (take_at c.copy-from-slice.new.self (drop x.len out) x.len wrote ∙ after) in
+    tell_long m s y (length out) (ap stood_of c.in-Some.is) bytes fits (take_at c.copy_from_slice.new.self (drop x.len out) x.len wrote ∙ after) in
     record {
       made = record { model = refl; step = step };
       promise = λ r. promised m laws s (tell_into (length out)) (told bytes x.price) s (reached_sound m laws s r) step;
-      rest = (omega arith, drop_at c.copy-from-slice.new.self (drop x.len out) x.len wrote);
+      rest = (omega arith, drop_at c.copy_from_slice.new.self (drop x.len out) x.len wrote);
     }

@@ -7,13 +7,13 @@ use Rattle.planner.specs.States.{state_of}
 use Rattle.planner.proofs.Changing.{refused_stays, refused_step}
 use Rattle.planner.proofs.questions.Question.test.Goals as goal
 
-pub returns-in-err-test : goal.returns-in-err-test
-returns-in-err-test g c =
-    let p = err_from_is_err_and c.from-residual.result c.from-residual.ensures.1 in
+pub returns-in_err-test : goal.returns-in_err-test
+returns-in_err-test g c =
+    let p = err_from_is_err_and c.from_residual.result c.from_residual.ensures.1 in
     let q = c.args.self.now in
     let o = tested (asked q.held.catalogue) c.args.table c.args.p c.args.q c.args.cost c.args.kind in
-    let f = c.in-err-test.ensures in
+    let f = c.in_err-test.ensures in
     rw (p.1, p.2) (record {
-      made = record { model = refl; step = refused_step Unit (g.M.PriceModel.meaning q.model) (state_of q.held) o c.in-err-test.field-0.0 (asked q.held.catalogue) _ done f };
-      outcome = refused_stays Unit o c.in-err-test.field-0.0 (asked q.held.catalogue) _ f;
+      made = record { model = refl; step = refused_step Unit (g.M.PriceModel.meaning q.model) (state_of q.held) o c.in_err-test.field-0.0 (asked q.held.catalogue) _ done f };
+      outcome = refused_stays Unit o c.in_err-test.field-0.0 (asked q.held.catalogue) _ f;
     })
