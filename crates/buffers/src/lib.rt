@@ -1,4 +1,6 @@
 // Writing into a lent buffer, piece after piece.
+#![tactic(auto)]
+
 ghost use Rattle.std.specs.Prelude.{[], ◌∷◌};
 ghost use Rattle.buffers.specs.Put.{PutOrNot};
 

@@ -2,7 +2,7 @@
 use Rattle.std.proofs.Common.{◌≡◌, ℕ, refl, arith}
 use Rattle.sets.specs.Sets.{has, members, any_below, sum_below}
 use Rattle.plans.specs.Questions.{tie_of, base, narrowed, size_of, linked, cost_of, across, all_tests}
-use Rattle.plans.specs.Plans.{Plan, tables, tests}
+use Rattle.plans.specs.Plans.{tables, tests}
 use Rattle.plans.specs.Prices.{price}
 use Rattle.plans.specs.Recurrence.{splits, both, above, alone, joining, testing, found, pick, first_best, row, rows_to, opt, tries, code, all_tries}
 use Rattle.plans.specs.Samples.{Samples}

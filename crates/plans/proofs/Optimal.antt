@@ -1,5 +1,5 @@
 -- The rows hold valid plans, one where there is any, and none is cheaper.
-use Rattle.std.proofs.Common.{◌≡◌, ℕ, zero, suc, ◌+◌, ◌-◌, ◌^◌, ◌<◌, ◌≤◌, Bool, true, false, cond, ◌||◌, is_some, Some, None, Option, sym, refl, ap, ◌∙◌, subst, ap₂, ⊎_elim, arith, pow_pos}
+use Rattle.std.proofs.Common.{◌≡◌, ℕ, zero, suc, ◌+◌, ◌-◌, ◌^◌, ◌<◌, Bool, true, false, cond, ◌||◌, is_some, Some, None, Option, sym, refl, ap, ◌∙◌, ap₂, ⊎_elim, arith, pow_pos}
 use lib.Bits.{bit_and, and_zero_l}
 use Rattle.sets.specs.Sets.{has, ◌⊆◌}
 use Rattle.pricing.specs.declared.kinds.Kind.{Kind}

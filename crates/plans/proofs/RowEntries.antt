@@ -1,11 +1,11 @@
 -- The recurrence over prices and choices gives those of the best plans.
-use Rattle.std.proofs.Common.{◌≡◌, ℕ, zero, suc, ◌+◌, ◌-◌, ◌^◌, ◌<◌, ◌≤◌, Bool, true, false, cond, ◌&&◌, eqb, is_some, Some, None, Option, sym, refl, ap, ◌∙◌, ap₂, add-one, arith}
+use Rattle.std.proofs.Common.{◌≡◌, ℕ, zero, suc, ◌+◌, ◌-◌, ◌^◌, ◌<◌, Bool, true, false, cond, ◌&&◌, eqb, is_some, Some, None, Option, sym, refl, ap, ◌∙◌, ap₂, add-one, arith}
 use lib.Bits.{bit_and}
 use Rattle.plans.specs.declared.entries.Entry.{Entry}
 use Rattle.sets.specs.Sets.{has, ◌⊆◌}
 use Rattle.plans.specs.Questions.{Question}
 use Rattle.plans.specs.declared.predicates.Test.{Test}
-use Rattle.plans.specs.Plans.{Plan, bare, test, join}
+use Rattle.plans.specs.Plans.{Plan, bare}
 use Rattle.pricing.specs.Models.{Model}
 use Rattle.plans.specs.Prices.{price}
 use Rattle.plans.specs.Recurrence.{splits, both, above, alone, joining, testing, found, pick, first_best, row, opt, tries, code}

@@ -1,5 +1,5 @@
 -- What a row says of itself: the price of each candidate by its parts' prices, and what its choice number tells.
-use Rattle.std.proofs.Common.{◌≡◌, ℕ, zero, suc, ◌+◌, ◌-◌, ◌*◌, ◌^◌, ◌<◌, ◌≤◌, min, Bool, true, false, cond, ◌&&◌, List, [], ◌∷◌, is_some, Some, None, filter, Option, sym, refl, ap, ◌∙◌, subst, ap₂, arith}
+use Rattle.std.proofs.Common.{◌≡◌, ℕ, ◌+◌, ◌-◌, ◌*◌, ◌^◌, ◌<◌, ◌≤◌, min, Bool, true, false, cond, ◌&&◌, List, [], ◌∷◌, Some, None, filter, Option, sym, refl, ap, ◌∙◌, subst, ap₂, arith}
 use lib.Bits.{bit_and}
 use Rattle.std.specs.List.{range_with_len, AllByRecursion as All}
 use Rattle.std.proofs.ByRecursion.{kept_by_passes, All-weaker}
@@ -10,9 +10,9 @@ use Rattle.plans.specs.Plans.{Plan, bare, test, join, tables, tests}
 use Rattle.pricing.specs.Models.{Model}
 use Rattle.plans.specs.Prices.{price}
 use Rattle.plans.specs.Recurrence.{opt, code}
-use Rattle.sets.proofs.Bits.{has_and, part_has}
+use Rattle.sets.proofs.Bits.{has_and}
 use Rattle.sets.proofs.Parts.{rest_sum, meet_part, tests_shared}
-use Rattle.plans.proofs.Rows.{Splits, Smaller, test_smaller, Comes, opt_comes}
+use Rattle.plans.proofs.Rows.{Splits, test_smaller, opt_comes}
 use Rattle.plans.proofs.Optimal.{sound}
 
 -- ---- the size goes by the tests on R alone

@@ -1,5 +1,5 @@
 -- A row of the recurrence: where its plan comes from, that it goes by smaller rows alone, and so that the rows keep the recurrence.
-use Rattle.std.proofs.Common.{◌≡◌, ℕ, zero, suc, ◌+◌, ◌-◌, ◌^◌, ◌<◌, ◌≤◌, Bool, true, false, ◌&&◌, eqb, ltb, is_some, Some, None, Option, sym, refl, ap, ◌∙◌, subst, ap₂, arith, pow_pos}
+use Rattle.std.proofs.Common.{◌≡◌, ℕ, zero, suc, ◌+◌, ◌-◌, ◌^◌, ◌<◌, Bool, true, false, ◌&&◌, eqb, ltb, is_some, Some, None, Option, sym, refl, ap, ◌∙◌, subst, ap₂, arith, pow_pos}
 use lib.Bits.{bit_and, and_le_l}
 use Rattle.std.proofs.lemmas.Bool.{and_parts, and_from, ltb-true, lt-ltb, eqb-true, eq-eqb}
 use Rattle.sets.specs.Sets.{has, within, ◌⊆◌}
@@ -7,7 +7,7 @@ use Rattle.plans.specs.Questions.{Question, linked}
 use Rattle.plans.specs.Plans.{Plan, bare, test, join}
 use Rattle.pricing.specs.Models.{Model, Lawful}
 use Rattle.plans.specs.Prices.{price}
-use Rattle.plans.specs.Recurrence.{Rows, splits, both, above, alone, joining, testing, pick, first_best, row, rows_to, opt}
+use Rattle.plans.specs.Recurrence.{Rows, splits, both, above, alone, joining, testing, row, rows_to, opt}
 use Rattle.sets.proofs.Parts.{one_le, part_self, part_chain, meet_part, meet_part_left, rest_part, without_part}
 use Rattle.plans.proofs.Firsts.{some_same, none_some, NoDearer, first_one, first_same, first_start, first_of}
 

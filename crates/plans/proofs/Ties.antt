@@ -1,5 +1,5 @@
 -- Of equally cheap candidates a row takes the first: joins by their left side's tables, then tests by number.
-use Rattle.std.proofs.Common.{◌≡◌, ℕ, zero, suc, ◌+◌, ◌-◌, ◌^◌, ◌<◌, ◌≤◌, Bool, true, false, ◌⊎◌, Some, None, Option, sym, refl, ap, ◌∙◌, inl, inr, arith}
+use Rattle.std.proofs.Common.{◌≡◌, ℕ, ◌<◌, false, Some, None, Option, sym, ap, ◌∙◌, inl, inr, arith}
 use lib.Bits.{bit_and}
 use Rattle.plans.specs.Questions.{Question}
 use Rattle.plans.specs.Plans.{Plan, bare, test, join, tables}
@@ -7,7 +7,7 @@ use Rattle.pricing.specs.Models.{Model, Lawful}
 use Rattle.plans.specs.Prices.{price}
 use Rattle.plans.specs.Recurrence.{alone, joining, testing, first_best, row, opt}
 use Rattle.sets.proofs.Parts.{meet_part}
-use Rattle.plans.proofs.Firsts.{NoDearer, Dearer, First, first_is, first_of, exactly, still_dearer, none_some, some_same}
+use Rattle.plans.proofs.Firsts.{First, first_is, first_of, exactly, still_dearer, none_some}
 use Rattle.plans.proofs.Rows.{alone_shape, joining_shape, testing_shape, opt_row}
 use Rattle.plans.proofs.Optimal.{sound}
 

@@ -1,7 +1,6 @@
 -- The set of all tables, and that of all tests.
-use Rattle.std.proofs.Common.{◌≡◌, ℕ, zero, suc, ◌+◌, ◌-◌, ◌*◌, ◌^◌, ◌<◌, ◌≤◌, Bool, true, false, cond, ◌&&◌, ◌||◌, eqb, ltb, is_some, sym, refl, ap, ◌∙◌, ap₂, add-zero, pow-suc, arith, pow_pos}
-use lib.Bits.{bit_and}
-use Rattle.std.proofs.lemmas.Bool.{le-ltb, and_parts, and_left, ltb-true, lt-ltb}
+use Rattle.std.proofs.Common.{◌≡◌, ℕ, zero, suc, ◌+◌, ◌-◌, ◌^◌, Bool, true, false, cond, ◌&&◌, ◌||◌, eqb, ltb, is_some, sym, refl, ap, ◌∙◌, ap₂, add-zero, pow-suc, arith, pow_pos}
+use Rattle.std.proofs.lemmas.Bool.{le-ltb, and_parts, and_left}
 use Rattle.std.proofs.lemmas.Bool.Decides.{nat_tests}
 use Rattle.sets.specs.Sets.{has, sum_below, ◌⊆◌}
 use Rattle.plans.specs.Questions.{Question, all_tests}

@@ -1,5 +1,5 @@
 -- The recurrence over prices and choices alone, as a table holds them.
-use Rattle.std.specs.Prelude.{ℕ, zero, suc, ◌+◌, ◌-◌, ◌^◌, Bool, true, false, cond, ◌&&◌, Some, None, Option, ◌==◌}
+use Rattle.std.specs.Prelude.{ℕ, zero, suc, ◌+◌, ◌-◌, ◌^◌, true, false, cond, ◌&&◌, Some, None, Option, ◌==◌}
 use Rattle.plans.specs.declared.entries.Entry.{Entry}
 use Rattle.sets.specs.Sets.{has}
 use Rattle.plans.specs.Questions.{Question, size, charged, across, tests_on}

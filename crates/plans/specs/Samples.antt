@@ -1,5 +1,5 @@
 -- Sample questions with their outcomes.
-use Rattle.std.specs.Prelude.{◌≡◌, ℕ, true, false, cond, ◌&&◌, List, [], ◌∷◌, Some, None, Option, ◌==◌}
+use Rattle.std.specs.Prelude.{◌≡◌, ℕ, cond, ◌&&◌, List, [], ◌∷◌, Some, None, Option, ◌==◌}
 use Rattle.pricing.specs.Clocks.{clock}
 use Rattle.pricing.specs.Fetches.{fetches_first}
 use Rattle.pricing.specs.declared.kinds.Kind.TheVariants.{Fetch}

@@ -1,9 +1,8 @@
 -- What the recurrence gives, under any lawful model of prices.
-use Rattle.std.specs.Prelude.{◌≡◌, ℕ, ◌-◌, ◌^◌, ◌<◌, true, false, cond, is_some, Some}
-use Rattle.sets.specs.Sets.{has}
+use Rattle.std.specs.Prelude.{◌≡◌, ℕ, ◌-◌, ◌^◌, ◌<◌, true, false, is_some, Some}
 use Rattle.plans.specs.Questions.{Question, Belongs, tests_on}
 use Rattle.plans.specs.Plans.{Plan, Valid, Counted, test, join, tables}
-use Rattle.pricing.specs.Models.{Model, Lawful}
+use Rattle.pricing.specs.Models.{Model}
 use Rattle.plans.specs.Prices.{price}
 use Rattle.plans.specs.Recurrence.{joining, testing, opt}
 

@@ -1,4 +1,6 @@
 // What a question, a plan and its price are, and that the recurrence over sets of tables and tests finds a cheapest plan.
+#![tactic(auto)]
+
 ghost use Rattle.plans.specs.Questions.{Question};
 ghost use Rattle.plans.specs.Samples.{Samples};
 ghost use Rattle.plans.specs.Spelling.{SpelledOneWay};

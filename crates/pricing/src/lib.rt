@@ -1,4 +1,6 @@
 // What a plan costs: the price model, its laws, and two models, Clock and Fetches first.
+#![tactic(auto)]
+
 mod clocks;
 mod fetch_prices;
 mod fetches;

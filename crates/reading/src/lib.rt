@@ -1,4 +1,6 @@
 // Readings: the text of a signed number of thousandths, as `-0.250`.
+#![tactic(auto)]
+
 ghost use Rattle.std.specs.Prelude.{◌≡◌};
 ghost use Rattle.reading.specs.Faults.{fault_number, refusal_number};
 ghost use Rattle.reading.specs.Undo.{Undo, Samples};

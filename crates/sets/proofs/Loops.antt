@@ -1,11 +1,11 @@
 -- What the loops of `contracted` and `rows_before` keep. The first reads a set from its highest place down, and knows the answer for what it has read.
-use Rattle.std.proofs.Common.{◌≡◌, ℕ, suc, ◌+◌, ◌-◌, ◌*◌, ◌/◌, ◌%◌, ◌^◌, ◌<◌, ◌≤◌, true, false, ◌≢◌, ◌⊎◌, sym, ap, ◌∙◌, subst, ap₂, subst₂, ⊎_elim, mul_assoc, mul_comm, pow-suc, mul-zero, mul-add, div-one, mul_left_comm, arith, pow_mono, pow-add}
+use Rattle.std.proofs.Common.{◌≡◌, ℕ, suc, ◌+◌, ◌-◌, ◌*◌, ◌/◌, ◌%◌, ◌^◌, ◌<◌, ◌≤◌, true, false, ◌≢◌, sym, ap, ◌∙◌, subst, ap₂, subst₂, ⊎_elim, mul_assoc, mul_comm, pow-suc, mul-zero, mul-add, div-one, mul_left_comm, arith, pow_mono, pow-add}
 use lib.Bits.{bit_and, and_le_l}
 use lib.Count.{ones, ones-le}
 use Rattle.std.proofs.lemmas.Nat.{shr-shr, shr_le}
 use Rattle.std.proofs.lemmas.Bool.{cases_eq, eqb-true, eqb-false}
 use Rattle.sets.specs.Sets.{has}
-use Rattle.sets.specs.Rows.{tests_on, contracted, before, rows_of}
+use Rattle.sets.specs.Rows.{contracted, before, rows_of}
 use Rattle.sets.proofs.Bits.{even_or_odd}
 use Rattle.sets.proofs.Contraction.{double, contracted_lt, contracted_out, contracted_inside, contracted_none}
 use Rattle.sets.proofs.Positions.{before_none, before_step, before_bound}

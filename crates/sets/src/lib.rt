@@ -1,4 +1,6 @@
 // Sets of small numbers, the rows of a table for sets of tables and tests, and the table itself.
+#![tactic(auto)]
+
 mod cells;
 mod products;
 mod rows;

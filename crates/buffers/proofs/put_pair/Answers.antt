@@ -1,4 +1,4 @@
-use Rattle.std.proofs.Common.{◌+◌, ◌≤◌, length, arith}
+use Rattle.std.proofs.Common.{arith}
 use Rattle.buffers.proofs.Putting.{put_two}
 use Rattle.buffers.proofs.put_pair.Goals as goal
 
