@@ -28,8 +28,8 @@ fn put_label(room: &mut [u8], label: u8, bytes: &[u8])
 impl Output {
     // Nothing is written.
     pub(crate) fn empty() -> Output
-        ensures bytes_value { take result.len result.bytes ≡ [] }
-        ensures len_value { result.len ≡ 0 }
+        ensures empty { take result.len result.bytes ≡ [] }
+        ensures len { result.len ≡ 0 }
     {
         Output {
             bytes: [0; ROOM],

@@ -33,7 +33,7 @@ returns-in-Ok-finish g c =
     let n = c.loop-line.number in
     record {
       model = c.loop-line.invariant.0;
-      outcome = gathers_by _ _ _ Q (c.loop-line.invariant.2 ∙ no_more n c.loop-line.turn Q c.loop-line.rest.now c.in-default.ensures ∙ ap (finished n Q) (sym c.in-Ok-finish.ensures)) (refl, refl);
+      outcome = gathers_by _ _ _ Q (c.loop-line.invariant.2 ∙ no_more n c.loop-line.turn Q c.loop-line.rest.now c.in_default.ensures ∙ ap (finished n Q) (sym c.in-Ok-finish.ensures)) (refl, refl);
     }
 
 pub returns-in-Err-finish : goal.returns-in-Err-finish
@@ -42,5 +42,5 @@ returns-in-Err-finish g c =
     let n = c.loop-line.number in
     record {
       model = c.loop-line.invariant.0;
-      outcome = gathers_by _ _ _ Q (c.loop-line.invariant.2 ∙ no_more n c.loop-line.turn Q c.loop-line.rest.now c.in-default.ensures ∙ ap (finished n Q) (sym c.in-Err-finish.ensures)) refl;
+      outcome = gathers_by _ _ _ Q (c.loop-line.invariant.2 ∙ no_more n c.loop-line.turn Q c.loop-line.rest.now c.in_default.ensures ∙ ap (finished n Q) (sym c.in-Err-finish.ensures)) refl;
     }

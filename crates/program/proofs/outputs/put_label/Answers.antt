@@ -5,4 +5,4 @@ use Rattle.program.proofs.outputs.put_label.Goals as goal
 pub returns : goal.returns
 returns c =
     let some : 0 < length c.args.room.now = omega (arith, c.requires) in
-    label_front c.args.room.now c.args.bytes.now c.copy-from-slice.new.self c.args.label _ some c.copy-from-slice.ensures.after
+    label_front c.args.room.now c.args.bytes.now c.copy_from_slice.new.self c.args.label _ some c.copy_from_slice.ensures.after

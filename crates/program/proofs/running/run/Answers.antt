@@ -33,7 +33,7 @@ returns g c =
     let input = c.args.input.now in
     let r = c.in-Err.refused in
     let f = subst (λ y. Answered (meaning y) (shown y) (ran (meaning y) ps ss cs input) (Err r)) c.new-question.ensures.model c.in-Err.ensures in
-    let is = c.fault-output.ensures ∙ refusal_written (meaning x) (shown x) (ran (meaning x) ps ss cs input) r f in
+    let is = c.fault_output.ensures ∙ refusal_written (meaning x) (shown x) (ran (meaning x) ps ss cs input) r f in
     record {
       written = is;
       honest = subst (λ bs. Honest (meaning x) (shown x) ps ss cs input bs) (sym is) (honest (meaning x) (g.met.M.PriceModel.lawful x) (shown x) ps ss cs input);
