@@ -1,7 +1,7 @@
 -- A table or a kind above 255 is as missing as 255 itself.
 use Rattle.std.proofs.Common.{◌≡◌, ℕ, zero, suc, ◌+◌, ◌*◌, ◌<◌, ◌≤◌, min, Bool, true, false, ◌||◌, leb, ◌⊎◌, List, get_or, Err, Option, Result, sym, refl, ap, ◌∙◌, inl, inr, arith}
 use native.Mathlib.Nat.{min-eq_left, min-eq_right}
-use Rattle.std.proofs.lemmas.Bool.{cases_Bool, cases_lt, le-leb, leb-true, leb-false, or_cases, or_parts, or_left, or_right}
+use Rattle.std.proofs.lemmas.Bool.{cases_Bool, cases_lt, le-leb, leb-false, or_cases, or_parts, or_left, or_right}
 use Rattle.pricing.specs.Kinds.{kind_of}
 use Rattle.pricing.specs.declared.kinds.Kind.{Kind}
 use Rattle.plans.specs.Questions.{Question}

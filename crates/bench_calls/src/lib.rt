@@ -1,4 +1,6 @@
 // Solving a question that is given in flat lists, for callers in other languages.
+#![tactic(auto)]
+
 mod building;
 mod calls;
 mod told;

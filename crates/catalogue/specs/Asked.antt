@@ -1,5 +1,5 @@
 -- The question that a catalogue holds.
-use Rattle.std.specs.Prelude.{ℕ, ◌+◌, ◌*◌, cond, None, nat_lt, slice_index, slice_index_or}
+use Rattle.std.specs.Prelude.{◌+◌, ◌*◌, cond, None, nat_lt, slice_index, slice_index_or}
 use Rattle.plans.specs.Questions.{Question}
 use Rattle.catalogue.specs.declared.catalogues.Catalogue.{Catalogue}
 

@@ -1,4 +1,6 @@
 // A question's tables, ties and tests, and the four calls that change them.
+#![tactic(auto)]
+
 mod catalogues;
 mod changes;
 mod links;

@@ -1,4 +1,6 @@
 // Whether plan bytes are a valid plan of a question, and its price.
+#![tactic(auto)]
+
 mod checks;
 mod named;
 mod operations;

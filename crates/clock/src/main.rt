@@ -1,4 +1,6 @@
 // Plans the question on standard input by the clock.
+#![tactic(auto)]
+
 use pricing::{Clock, PriceModel};
 use streams::{ROWS, serve};
 

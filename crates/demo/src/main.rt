@@ -1,4 +1,6 @@
 // A bench sheet: what corrections of a test's cost do to the plan of a question, under both price models.
+#![tactic(auto)]
+
 mod planning;
 mod sample;
 

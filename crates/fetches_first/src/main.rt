@@ -1,4 +1,6 @@
 // Plans the question on standard input by fetches first, and then by the clock.
+#![tactic(auto)]
+
 use pricing::{FetchesFirst, PriceModel};
 use streams::{ROWS, serve};
 

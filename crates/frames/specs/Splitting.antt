@@ -1,5 +1,5 @@
 -- The first line of an input and what follows it.
-use Rattle.std.specs.Prelude.{◌≡◌, ℕ, ◌<◌, List, [], ◌∷◌, length}
+use Rattle.std.specs.Prelude.{◌≡◌, ℕ, ◌<◌, List, ◌∷◌, length}
 use Rattle.frames.specs.declared.lines.Line.{Line}
 use Rattle.frames.specs.Lines.{PlainLine, line, lines_of}
 

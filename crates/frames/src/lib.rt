@@ -1,4 +1,6 @@
 // Lines of hexadecimal, frames, and the turn of their reader.
+#![tactic(auto)]
+
 ghost use Rattle.frames.specs.Laws.{CutAtEnds, LinesReadBack, TenDecide};
 ghost use Rattle.frames.specs.Samples.{Samples};
 

@@ -1,5 +1,5 @@
 -- A change that is refused leaves the question as it was.
-use Rattle.std.proofs.Common.{◌≡◌, ℕ, Ok, Err, Result, refl, ap}
+use Rattle.std.proofs.Common.{Ok, Err, Result, refl, ap}
 use Rattle.pricing.specs.Models.{Model}
 use Rattle.plans.specs.Questions.{Question}
 use Rattle.catalogue.specs.Changes.{Follows}

@@ -1,5 +1,5 @@
 -- What a caller knows after a call, from the number of its refusal and from what it leaves.
-use Rattle.std.proofs.Common.{◌≡◌, ℕ, ◌<◌, ◌≤◌, cond, eqb, ◌⊎◌, List, length, Ok, Err, Result, sym, refl, ap, ◌∙◌, subst, ⊎_elim, arith}
+use Rattle.std.proofs.Common.{◌≡◌, ℕ, ◌≤◌, cond, eqb, List, length, Ok, Err, Result, sym, refl, ap, ◌∙◌, subst, ⊎_elim, arith}
 use Rattle.pricing.specs.Models.{Model, Lawful}
 use Rattle.plans.specs.Questions.{Question as AskedQuestion}
 use Rattle.plans.specs.Plans.{Plan}

@@ -1,17 +1,16 @@
 -- What solve's outcome says of the valid plans.
-use Rattle.std.proofs.Common.{◌≡◌, ℕ, ◌<◌, Bool, true, false, cond, not, eqb, is_some, Some, None, Ok, Err, Option, Result, sym, refl, ap, ◌∙◌, arith}
+use Rattle.std.proofs.Common.{◌≡◌, ℕ, ◌<◌, Bool, true, false, cond, not, eqb, is_some, Some, None, Ok, Err, Option, sym, refl, ap, ◌∙◌, arith}
 use Rattle.std.proofs.lemmas.Bool.{ne_eqb}
 use Rattle.pricing.specs.Models.{Model, Lawful}
 use Rattle.plans.specs.Questions.{Question, all_tables, all_tests}
-use Rattle.plans.specs.Plans.{Plan, Answers}
+use Rattle.plans.specs.Plans.{Plan}
 use Rattle.plans.specs.Prices.{price}
 use Rattle.plans.specs.Recurrence.{opt}
 use Rattle.plans.specs.Statement.{Planned}
 use Rattle.plans.proofs.Planned.{planned}
 use Rattle.plans.proofs.Whole.{all_tests_part}
 use Rattle.solver.specs.Solves.{outcome, whole_plan}
-use Rattle.solver.specs.declared.solutions.SolveRefusal.{SolveRefusal}
-use Rattle.solver.specs.declared.solutions.SolveRefusal.TheVariants.{NoTables, ListTooShort, NoPlan, PastCount}
+use Rattle.solver.specs.declared.solutions.SolveRefusal.TheVariants.{NoTables, ListTooShort, PastCount}
 use Rattle.planner.specs.Law.{Cheapest, HasNoPlan, AllPast}
 
 module _ {P : Type 0} (m : Model P) (Q : Question) where

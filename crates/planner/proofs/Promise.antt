@@ -1,20 +1,19 @@
 -- The law over runs: a plan that stands is a cheapest one of the question as it stands.
-use Rattle.std.proofs.Common.{◌≡◌, ℕ, ◌<◌, Bool, true, false, cond, ◌⊎◌, List, [], ◌∷◌, ◌++◌, Some, None, Ok, Err, Option, Result, sym, refl, ap, ◌∙◌, subst, inl, inr, ⊎_elim, arith}
+use Rattle.std.proofs.Common.{◌≡◌, ℕ, ◌<◌, Bool, true, false, cond, List, [], ◌∷◌, ◌++◌, Some, None, Ok, Err, Option, Result, sym, refl, ap, ◌∙◌, subst, ⊎_elim, arith}
 use Rattle.pricing.specs.Models.{Model, Lawful}
 use Rattle.plans.specs.Questions.{Question, all_tables, all_tests}
 use Rattle.plans.specs.Plans.{Plan, Answers}
 use Rattle.plans.specs.Prices.{price}
 use Rattle.plans.specs.Recurrence.{all_tries, opt}
-use Rattle.plans.specs.Spelling.{spelled}
 use Rattle.catalogue.specs.Changes.{tabled, tied, tested, corrected}
 use Rattle.catalogue.specs.declared.refusals.ChangeRefusal.{ChangeRefusal}
 use Rattle.solver.specs.Solves.{enough, outcome, whole_plan}
 use Rattle.solver.specs.declared.solutions.SolveRefusal.{SolveRefusal}
-use Rattle.solver.specs.declared.solutions.SolveRefusal.TheVariants.{NoPlan, PastCount}
+use Rattle.solver.specs.declared.solutions.SolveRefusal.TheVariants.{PastCount}
 use Rattle.planner.specs.Calls.{Call, add_table, set_tie, set_test, correct_test, solve_with, tell_into, check_plan, Answer, solved, told, refused}
 use Rattle.planner.specs.Given.{taken, after_call, given_by}
 use Rattle.planner.specs.States.{State, Stood, fresh}
-use Rattle.planner.specs.Steps.{Step, Changes, Solves, Tells, Checks, changed, with_plan}
+use Rattle.planner.specs.Steps.{Step, Changes, Solves, Tells, Checks, with_plan}
 use Rattle.planner.specs.Law.{Run, Reached, Cheapest, ToldTrue, HasNoPlan, AllPast, Decided, Promise, Kept, Law}
 use Rattle.planner.specs.Lent.{Lent, Works}
 use Rattle.planner.proofs.Outcomes.{plan_found, with_room, found_cheapest, found_none, found_past}

@@ -1,5 +1,5 @@
 -- A solve, by what the solver answers.
-use Rattle.std.proofs.Common.{◌≡◌, ℕ, ◌≤◌, min, Bool, List, length, take, Some, None, Ok, Err, Option, Result, sym, refl, ap, ◌∙◌, subst, ap₂, arith, length-take}
+use Rattle.std.proofs.Common.{◌≡◌, ◌≤◌, Bool, length, take, Some, Ok, Err, Result, sym, refl, ap, ◌∙◌, ap₂, arith, length-take}
 use Rattle.pricing.specs.Models.{Model, Lawful}
 use Rattle.plans.specs.Questions.{Question}
 use Rattle.plans.specs.Plans.{Plan, Answers as ValidPlan}
@@ -12,10 +12,10 @@ use Rattle.solver.specs.Solves.{Answers, Tells, outcome, solve_number}
 use Rattle.solver.specs.declared.solutions.Solution.{Solution}
 use Rattle.solver.specs.declared.solutions.SolveRefusal.{SolveRefusal}
 use Rattle.planner.specs.declared.held.Held.{Held}
-use Rattle.planner.specs.Calls.{Answer, solved, refused}
+use Rattle.planner.specs.Calls.{solved, refused}
 use Rattle.planner.specs.Standing.{StandsValid}
-use Rattle.planner.specs.States.{State, Stood, state_of, stood_of}
-use Rattle.planner.specs.Steps.{Solves, with_plan}
+use Rattle.planner.specs.States.{State, Stood, state_of}
+use Rattle.planner.specs.Steps.{Solves}
 use Rattle.planner.proofs.Outcomes.{plan_found, found_cheapest}
 
 -- What was found stands.

@@ -1,5 +1,5 @@
 -- The question that a list of calls gives.
-use Rattle.std.specs.Prelude.{ℕ, List, [], ◌∷◌, Ok, Err, Result}
+use Rattle.std.specs.Prelude.{List, [], ◌∷◌, Ok, Err, Result}
 use Rattle.plans.specs.Questions.{Question}
 use Rattle.catalogue.specs.Changes.{tabled, tied, tested, corrected}
 use Rattle.catalogue.specs.declared.refusals.ChangeRefusal.{ChangeRefusal}

@@ -1,5 +1,5 @@
 -- What each call answers, and how the question then stands.
-use Rattle.std.specs.Prelude.{◌≡◌, ℕ, ◌<◌, true, false, leb, ◌⊎◌, List, length, Some, None, Ok, Err, Option, Result}
+use Rattle.std.specs.Prelude.{◌≡◌, ℕ, ◌<◌, false, ◌⊎◌, List, length, Some, None, Ok, Err, Option, Result}
 use Rattle.pricing.specs.Models.{Model}
 use Rattle.plans.specs.Questions.{Question}
 use Rattle.plans.specs.Plans.{Plan}

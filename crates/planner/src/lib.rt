@@ -1,4 +1,6 @@
 // A question under a price model: the seven calls, and the law that no told plan is undercut.
+#![tactic(auto)]
+
 ghost use Rattle.planner.specs.Law.{Law};
 
 use pricing::PriceModel;

@@ -6,7 +6,6 @@ use Rattle.catalogue.specs.declared.refusals.ChangeRefusal.{ChangeRefusal}
 use Rattle.frames.specs.Frames.{correction_of, plain_frame}
 use Rattle.frames.specs.declared.faults.FrameFault.{FrameFault}
 use Rattle.frames.specs.declared.frames.Frame.{Frame}
-use Rattle.program.specs.declared.faults.ProgramFault.{ProgramFault}
 use Rattle.program.specs.declared.faults.ProgramFault.TheVariants.{Change}
 use Rattle.program.specs.Lines.{and_then, Calls, called, change_or_fault, frame_or_fault}
 

@@ -1,5 +1,5 @@
 -- What is written is the refusal that is due, or a cheapest plan of the question that the lines ask.
-use Rattle.std.proofs.Common.{◌≡◌, ℕ, ◌+◌, ◌<◌, ◌≤◌, Bool, true, false, cond, eqb, ltb, ◌⊎◌, List, [], ◌∷◌, ◌++◌, length, Some, None, Ok, Err, Option, Result, sym, refl, ap, ◌∙◌, subst, inl, inr, arith}
+use Rattle.std.proofs.Common.{◌≡◌, ℕ, ◌+◌, ◌<◌, Bool, true, false, cond, eqb, ltb, ◌⊎◌, List, [], ◌∷◌, ◌++◌, length, Some, None, Ok, Err, Option, Result, refl, ap, ◌∙◌, subst, inl, inr, arith}
 use Rattle.std.proofs.lemmas.Bool.{eqb-true, ltb-true, ltb-false}
 use Rattle.pricing.specs.Models.{Model, Lawful}
 use Rattle.plans.specs.Questions.{Question, all_tables, all_tests}
@@ -21,7 +21,7 @@ use Rattle.program.specs.declared.faults.Refused.{Refused}
 use Rattle.program.specs.Lines.{Gathered, judged}
 use Rattle.program.specs.Outputs.{written}
 use Rattle.program.specs.Runs.{at_line, finished, gathered, planned, ran, solved_after, start}
-use Rattle.program.specs.Statement.{Accepted, Asks, FirstRefused, NeverEnded, Unsolved, SolveRefused, Due, Honest}
+use Rattle.program.specs.Statement.{Accepted, Unsolved, Honest}
 
 -- ---- what becomes of the lines after the first n
 

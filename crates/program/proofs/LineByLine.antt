@@ -1,10 +1,9 @@
 -- The lines of an input, gathered one by one.
-use Rattle.std.proofs.Common.{◌≡◌, ℕ, ◌+◌, List, [], ◌∷◌, Ok, Err, Result, sym, refl, ap, ◌∙◌, subst}
+use Rattle.std.proofs.Common.{◌≡◌, ℕ, ◌+◌, List, [], Ok, Err, Result, sym, ap, ◌∙◌, subst}
 use Rattle.plans.specs.Questions.{Question}
 use Rattle.frames.specs.Lines.{PlainLine, lines_of}
 use Rattle.frames.specs.Splitting.{First}
 use Rattle.frames.specs.Turns.{turn_finished}
-use Rattle.frames.specs.declared.faults.FrameFault.{FrameFault}
 use Rattle.frames.specs.declared.turns.Turn.{Turn}
 use Rattle.program.specs.declared.faults.ProgramFault.{ProgramFault}
 use Rattle.program.specs.declared.faults.Refused.{Refused}

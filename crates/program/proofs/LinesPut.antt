@@ -1,5 +1,5 @@
 -- A line that was put behind others.
-use Rattle.std.proofs.Common.{◌≡◌, ℕ, ◌+◌, ◌*◌, ◌/◌, ◌%◌, ◌<◌, ◌≤◌, List, [], ◌∷◌, ◌++◌, length, get_or, take, drop, set, sym, refl, ap, ◌∙◌, div-one, arith, length-append, length-take, take_at}
+use Rattle.std.proofs.Common.{◌≡◌, ℕ, ◌+◌, ◌*◌, ◌/◌, ◌%◌, ◌<◌, ◌≤◌, List, [], ◌∷◌, ◌++◌, length, get_or, take, drop, set, refl, ap, ◌∙◌, div-one, arith, length-append, length-take, take_at}
 use borrow.Rule.Slice.PartMut.{put_mid}
 use Rattle.frames.specs.Hexadecimal.{hex_digits, hex_line}
 use Rattle.buffers.specs.Put.{Put}

@@ -1,5 +1,5 @@
 -- How a line is judged: by characters, frame, turn, reading, call. The first fault passes up unchanged.
-use Rattle.std.specs.Prelude.{◌≡◌, ℕ, Some, None, Ok, Err, Option, Result}
+use Rattle.std.specs.Prelude.{◌≡◌, Some, None, Ok, Err, Option, Result}
 use Rattle.plans.specs.Questions.{Question}
 use Rattle.catalogue.specs.Changes.{tabled, tied, tested, corrected}
 use Rattle.catalogue.specs.declared.refusals.ChangeRefusal.{ChangeRefusal}

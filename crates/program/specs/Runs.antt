@@ -1,5 +1,5 @@
 -- A whole run: the length of the input, the lines in their order, the end, and solve.
-use Rattle.std.specs.Prelude.{◌≡◌, ℕ, ◌+◌, Bool, true, false, List, [], ◌∷◌, length, take, Ok, Err, Result, nat_lt}
+use Rattle.std.specs.Prelude.{◌≡◌, ℕ, ◌+◌, true, false, List, [], ◌∷◌, length, take, Ok, Err, Result, nat_lt}
 use Rattle.pricing.specs.Models.{Model}
 use Rattle.plans.specs.Questions.{Question}
 use Rattle.plans.specs.Plans.{Plan}

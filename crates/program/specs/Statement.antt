@@ -1,9 +1,8 @@
 -- What a program promises of what it writes.
-use Rattle.std.specs.Prelude.{◌≡◌, ℕ, ◌+◌, ◌<◌, true, false, ◌⊎◌, List, [], ◌∷◌, ◌++◌, length, Ok, Err}
+use Rattle.std.specs.Prelude.{◌≡◌, ℕ, ◌+◌, ◌<◌, false, ◌⊎◌, List, [], ◌∷◌, ◌++◌, length, Ok, Err}
 use Rattle.pricing.specs.Models.{Model}
 use Rattle.plans.specs.Questions.{Question}
 use Rattle.plans.specs.Plans.{Plan, Answers}
-use Rattle.plans.specs.Prices.{price}
 use Rattle.plans.specs.Recurrence.{all_tries}
 use Rattle.plans.specs.Spelling.{spelled}
 use Rattle.solver.specs.Solves.{enough}

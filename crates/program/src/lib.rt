@@ -1,4 +1,6 @@
 // A whole run of a program: lines of hexadecimal in, a plan or one fault line out.
+#![tactic(auto)]
+
 mod faults;
 mod gathering;
 mod judging;

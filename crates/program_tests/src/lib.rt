@@ -1,3 +1,5 @@
+#![tactic(auto)]
+
 // Tests of whole runs.
 #[cfg(test)]
 mod tests;

@@ -1,4 +1,6 @@
 // Reads the plan of a row off the choices of the rows, as plan bytes.
+#![tactic(auto)]
+
 ghost use Rattle.std.specs.Prelude.{◌≤◌, length};
 ghost use Rattle.plans.specs.Plans.{Plan, WellFormed};
 ghost use Rattle.plans.specs.Questions.{Question};

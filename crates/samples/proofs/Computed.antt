@@ -1,5 +1,5 @@
 -- The samples, by computation.
-use Rattle.std.proofs.Common.{◌≡◌, ℕ, true, false, List, [], ◌∷◌, ◌++◌, sym, refl, ◌∙◌, subst, inl, inr, arith}
+use Rattle.std.proofs.Common.{◌≡◌, ℕ, [], ◌∷◌, sym, refl, ◌∙◌, subst, inl, inr, arith}
 use lib.Count.{ones}
 use Rattle.sets.specs.Sets.{has, members, any_below, sum_below}
 use Rattle.plans.specs.Questions.{tie_of, base, narrowed, size_of, linked, cost_of, across, all_tests}

@@ -1,9 +1,9 @@
 -- The sample questions, by the calls that ask them.
-use Rattle.std.specs.Prelude.{◌≡◌, ℕ, List, [], ◌∷◌, None}
+use Rattle.std.specs.Prelude.{ℕ, List, [], ◌∷◌, None}
 use Rattle.pricing.specs.Models.{Model}
 use Rattle.plans.specs.Questions.{Question}
 use Rattle.catalogue.specs.Changes.{empty}
-use Rattle.planner.specs.Calls.{Answer, add_table, set_test, set_tie, solve_with, solved, tell_into, told}
+use Rattle.planner.specs.Calls.{add_table, set_test, set_tie, solve_with, solved, tell_into, told}
 use Rattle.planner.specs.Given.{given_by}
 use Rattle.planner.specs.States.{State}
 use Rattle.planner.specs.Steps.{Step}

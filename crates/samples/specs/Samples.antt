@@ -1,5 +1,5 @@
 -- The samples: what sample calls answer, by the definitions.
-use Rattle.std.specs.Prelude.{◌≡◌, ℕ, List, [], ◌∷◌, negsuc, Some, Ok, Err, codes}
+use Rattle.std.specs.Prelude.{◌≡◌, [], ◌∷◌, negsuc, Ok, Err, codes}
 use Rattle.pricing.specs.Clocks.{clock}
 use Rattle.pricing.specs.Fetches.{fetches_first}
 use Rattle.pricing.specs.declared.fetch_prices.FetchPrice.{FetchPrice}

@@ -1,9 +1,8 @@
 -- What the lists hold of a row, by what stands at its place.
-use Rattle.std.proofs.Common.{◌≡◌, ℕ, Bool, true, false, cond, eqb, List, Some, None, Option, sym, refl, ap, ◌∙◌, ap₂}
+use Rattle.std.proofs.Common.{◌≡◌, ℕ, Bool, cond, List, Some, None, Option, sym, refl, ap, ◌∙◌, ap₂}
 use Rattle.std.specs.List.{slice_get}
 use Rattle.std.proofs.lemmas.Bool.{eq-eqb, ne_eqb}
 use Rattle.sets.specs.Rows.{place_of}
-use Rattle.plans.specs.declared.entries.Entry.{Entry}
 use Rattle.solver.specs.Held.{as_entry, held}
 
 module _ {P : Type 0} (ps : List P) (cs : List ℕ) (T R S : ℕ) where

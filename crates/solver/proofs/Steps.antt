@@ -1,11 +1,10 @@
 -- One row more.
-use Rattle.std.proofs.Common.{◌≡◌, ℕ, ◌+◌, ◌-◌, ◌<◌, ◌≤◌, Bool, true, false, cond, eqb, ◌≢◌, ◌⊎◌, List, length, set, Some, None, Option, sym, refl, ap, ◌∙◌, subst, ap₂, inl, inr, ⊎_elim, arith}
-use lib.Bits.{bit_and, and_comm}
+use Rattle.std.proofs.Common.{◌≡◌, ℕ, ◌+◌, ◌<◌, Bool, false, cond, eqb, ◌≢◌, List, length, set, Some, None, Option, sym, refl, ap, ◌∙◌, subst, ap₂, ⊎_elim, arith}
 use Rattle.std.specs.List.{slice_get}
 use Rattle.std.proofs.lemmas.Bool.{cases_eq, cases_lt, and_from, ne_eqb}
 use Rattle.pricing.specs.Models.{Model}
 use Rattle.sets.specs.Sets.{has, ◌⊆◌}
-use Rattle.sets.specs.Rows.{tests_on, place_of}
+use Rattle.sets.specs.Rows.{tests_on}
 use Rattle.sets.proofs.Bits.{part_le, part_has, has_part, has_and}
 use Rattle.sets.proofs.Parts.{part_chain, meet_part, meet_part_left}
 use Rattle.sets.proofs.Positions.{place_smaller, place_fewer, place_same}

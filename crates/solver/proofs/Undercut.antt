@@ -2,7 +2,7 @@
 use Rattle.std.proofs.Common.{◌≡◌, ℕ, Bool, true, false, cond, T, eqb, is_some, Some, None, Ok, Err, Option, Result, sym, refl, ap, ◌∙◌, subst, arith, eqb→eq}
 use Rattle.pricing.specs.Models.{Model, Lawful}
 use Rattle.plans.specs.Questions.{Question, all_tables, all_tests}
-use Rattle.plans.specs.Plans.{Plan, Valid}
+use Rattle.plans.specs.Plans.{Plan}
 use Rattle.plans.specs.Prices.{price}
 use Rattle.plans.specs.Recurrence.{opt}
 use Rattle.plans.specs.Statement.{Planned}

@@ -1,12 +1,11 @@
 -- The whole question's plan, from rows that are filled.
-use Rattle.std.proofs.Common.{◌≡◌, ℕ, zero, suc, ◌+◌, ◌-◌, ◌^◌, ◌<◌, ◌≤◌, Bool, true, false, cond, eqb, List, [], ◌∷◌, ◌++◌, length, get_or, take, drop, Some, None, Ok, Err, Option, sym, refl, ap, ◌∙◌, subst, ap₂, arith, take_at, pow_pos}
+use Rattle.std.proofs.Common.{◌≡◌, ℕ, zero, suc, ◌^◌, ◌<◌, ◌≤◌, Bool, true, false, cond, List, [], ◌∷◌, length, get_or, take, drop, Some, None, Ok, Err, Option, sym, refl, ap, ◌∙◌, subst, ap₂, arith, take_at, pow_pos}
 use lib.Bits.{and_self}
 use Rattle.std.specs.List.{slice_get}
 use Rattle.std.proofs.lemmas.Option.{slice_get-get_or, slice_get_past}
 use Rattle.std.proofs.lemmas.Bool.{ne_eqb}
 use Rattle.pricing.specs.Models.{Model}
-use Rattle.sets.specs.Sets.{◌⊆◌}
-use Rattle.sets.specs.Rows.{tests_on, place_of, row_count}
+use Rattle.sets.specs.Rows.{place_of}
 use Rattle.sets.proofs.Positions.{place_lt}
 use Rattle.plans.specs.Questions.{Question, all_tables, all_tests}
 use Rattle.plans.specs.Plans.{Plan}
@@ -21,7 +20,7 @@ use Rattle.readoff.proofs.Following.{plans_led_to}
 use Rattle.readoff.proofs.Short.{within_58}
 use Rattle.solver.specs.Held.{price_at}
 use Rattle.solver.specs.Solved.{Own, place}
-use Rattle.solver.specs.Solves.{rows_of, Readable, whole_plan, Answers, Tells}
+use Rattle.solver.specs.Solves.{rows_of, Readable, whole_plan, Answers}
 use Rattle.solver.specs.declared.solutions.Solution.{Solution}
 use Rattle.solver.specs.declared.solutions.SolveRefusal.TheVariants.{NoPlan, PastCount}
 use Rattle.solver.proofs.Steps.{own_by, some_code}

@@ -1,5 +1,5 @@
 -- What the lists of prices and choices hold of a row, as the recurrence over entries reads it.
-use Rattle.std.specs.Prelude.{ℕ, ◌+◌, true, false, cond, List, Some, None, Option, ◌==◌, slice_set}
+use Rattle.std.specs.Prelude.{ℕ, ◌+◌, cond, List, Some, None, Option, ◌==◌, slice_set}
 use Rattle.std.specs.List.{slice_get}
 use Rattle.sets.specs.Rows.{place_of}
 use Rattle.pricing.specs.Models.{Model}

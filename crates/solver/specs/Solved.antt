@@ -1,5 +1,5 @@
 -- What the three lists hold of the rows before a place, and what they hold from there on.
-use Rattle.std.specs.Prelude.{◌≡◌, ℕ, ◌<◌, ◌≤◌, List, Some, None, Option}
+use Rattle.std.specs.Prelude.{◌≡◌, ℕ, ◌<◌, ◌≤◌, List, Some, None}
 use Rattle.std.specs.List.{slice_get}
 use Rattle.pricing.specs.Models.{Model}
 use Rattle.sets.specs.Sets.{◌⊆◌}

@@ -1,4 +1,6 @@
 // Finds the cheapest plan of every set of tables and tests, and reads that of the whole question off.
+#![tactic(auto)]
+
 mod candidates;
 mod rows;
 mod solutions;

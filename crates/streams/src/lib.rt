@@ -1,4 +1,6 @@
 // A program's standard input and output.
+#![tactic(auto)]
+
 use pricing::PrintableModel;
 use program::{MOST_INPUT, run};
 use std::io::{Read, Write};

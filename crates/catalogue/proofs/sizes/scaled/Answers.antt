@@ -1,4 +1,4 @@
-use Rattle.std.proofs.Common.{◌*◌, refl, arith}
+use Rattle.std.proofs.Common.{refl, arith}
 use Rattle.catalogue.proofs.Scaling.{up_le}
 use Rattle.catalogue.proofs.sizes.scaled.Goals as goal
 

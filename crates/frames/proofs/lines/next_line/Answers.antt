@@ -1,4 +1,4 @@
-use Rattle.std.proofs.Common.{◌≡◌, ◌<◌, length, sym, arith, eqb-true}
+use Rattle.std.proofs.Common.{◌<◌, length, sym, arith, eqb-true}
 use borrow.Author.Tests.{eqb-false}
 use Rattle.std.proofs.lemmas.List.{nil_from_length}
 use Rattle.frames.proofs.FirstLine.{first_ended, first_not_ended}

@@ -1,4 +1,4 @@
-use Rattle.std.proofs.Common.{◌≡◌, ◌+◌, ◌≤◌, length, sym, refl, ap, ◌∙◌, subst, arith}
+use Rattle.std.proofs.Common.{sym, refl, ap, ◌∙◌, arith}
 use Rattle.catalogue.specs.Asked.{asked}
 use Rattle.frames.specs.Splitting.{plain_line}
 use Rattle.program.specs.Lines.{Gathered}

@@ -1,9 +1,8 @@
-use Rattle.std.proofs.Common.{◌≡◌, ◌<◌, ◌≤◌, length, Ok, Err, sym, refl, ap, ◌∙◌, subst, arith}
-use Rattle.std.proofs.lemmas.Result.{err_from_is_err_and}
+use Rattle.std.proofs.Common.{◌≡◌, ◌≤◌, length, Err, subst, arith}
 use Rattle.catalogue.specs.Asked.{asked}
 use Rattle.solver.specs.Solves.{enough, outcome}
 use Rattle.planner.proofs.Following.{solve_refused}
-use Rattle.program.proofs.Ran.{answered_refused, ran_refused, ran_unsolved}
+use Rattle.program.proofs.Ran.{answered_refused, ran_unsolved}
 use Rattle.program.proofs.running.answer.Goals as goal
 
 pub returns-in-Err : goal.returns-in-Err

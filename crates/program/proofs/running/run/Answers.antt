@@ -1,4 +1,4 @@
-use Rattle.std.proofs.Common.{◌≡◌, List, length, take, Ok, Err, sym, ◌∙◌, subst}
+use Rattle.std.proofs.Common.{length, Ok, Err, sym, ◌∙◌, subst}
 use Rattle.program.specs.Runs.{Answered, ran}
 use Rattle.program.specs.Statement.{Honest}
 use Rattle.program.proofs.Honesty.{honest}

@@ -1,4 +1,4 @@
-use Rattle.std.proofs.Common.{◌≡◌, ◌/◌, ◌%◌, [], ◌∷◌, ◌++◌, sym, ap, ◌∙◌}
+use Rattle.std.proofs.Common.{◌/◌, ◌%◌, [], ◌∷◌, ◌++◌, sym, ap, ◌∙◌}
 use Rattle.frames.specs.Hexadecimal.{hex_line}
 use Rattle.program.specs.Faults.{program_layer, program_number}
 use Rattle.program.proofs.LinesPut.{two_bytes}

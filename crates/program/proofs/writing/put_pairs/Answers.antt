@@ -1,4 +1,4 @@
-use Rattle.std.proofs.Common.{◌≡◌, ◌<◌, ◌≤◌, [], ◌∷◌, ◌++◌, length, get_or, take, sym, ap, ◌∙◌, append_assoc, append-nil, arith, rules}
+use Rattle.std.proofs.Common.{◌<◌, ◌≤◌, [], ◌∷◌, ◌++◌, length, get_or, take, sym, ap, ◌∙◌, append_assoc, append-nil, arith, rules}
 use Rattle.checker.proofs.Pairs.{rest_of, two_first}
 use Rattle.frames.specs.Hexadecimal.{hex_line}
 use Rattle.program.specs.Outputs.{pair_lines}

@@ -1,4 +1,4 @@
-use Rattle.std.proofs.Common.{◌≡◌, ◌-◌, List, ◌∷◌, ◌++◌, length, take, sym, ap, ◌∙◌, arith, take_at}
+use Rattle.std.proofs.Common.{◌≡◌, ◌-◌, ◌∷◌, ◌++◌, length, take, sym, ap, ◌∙◌, arith, take_at}
 use native.Mathlib.Nat.{sub-zero}
 use Rattle.frames.specs.Hexadecimal.{hex_line}
 use Rattle.program.proofs.writing.put_price.Goals as goal

@@ -1,4 +1,4 @@
-use Rattle.std.proofs.Common.{◌≡◌, ◌^◌, ◌<◌, List, ◌∷◌, ◌++◌, take, ap, ◌∙◌, rules}
+use Rattle.std.proofs.Common.{◌^◌, ◌<◌, ◌∷◌, ◌++◌, take, ap, ◌∙◌, rules}
 use Rattle.frames.specs.Hexadecimal.{hex_line}
 use Rattle.pricing.specs.Bytes.{eight_bytes}
 use Rattle.program.proofs.writing.put_tries.Goals as goal

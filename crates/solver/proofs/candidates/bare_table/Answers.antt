@@ -1,5 +1,5 @@
-use Rattle.std.proofs.Common.{sym, ap, ◌∙◌, ap₂, arith}
-use Rattle.plans.specs.Entries.{better, best_entry}
+use Rattle.std.proofs.Common.{sym, ◌∙◌, ap₂}
+use Rattle.plans.specs.Entries.{better}
 use Rattle.plans.proofs.RowEntries.{best_entry_none, best_entry_more}
 use Rattle.solver.proofs.candidates.bare_table.Goals as goal
 

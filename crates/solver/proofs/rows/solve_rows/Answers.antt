@@ -1,6 +1,5 @@
 use Rattle.std.proofs.Common.{◌≡◌, ℕ, length, sym, refl, ap, ◌∙◌, arith, length-set, rules}
 use Rattle.catalogue.specs.Asked.{asked}
-use Rattle.plans.specs.Questions.{all_tests}
 use Rattle.sets.specs.declared.small_sets.SmallSet.{SmallSet}
 use Rattle.solver.proofs.Steps.{solved_none}
 use Rattle.solver.proofs.Summing.{tries_before, tries_none, tries_all}

@@ -1,4 +1,4 @@
-use Rattle.std.proofs.Common.{◌≡◌, ℕ, sym, ap, ◌∙◌, arith}
+use Rattle.std.proofs.Common.{◌≡◌, sym, ap, ◌∙◌, arith}
 use Rattle.plans.specs.Questions.{across}
 use Rattle.sets.specs.Sets.{sum_below}
 use Rattle.catalogue.proofs.Below.{sum_none, sum_more}

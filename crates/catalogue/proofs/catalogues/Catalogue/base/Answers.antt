@@ -1,4 +1,4 @@
-use Rattle.std.proofs.Common.{◌≡◌, ℕ, ◌*◌, ◌≤◌, Bool, true, false, cond, Some, None, Option, sym, refl, ap, ◌∙◌, arith}
+use Rattle.std.proofs.Common.{◌≡◌, ℕ, ◌*◌, Bool, true, false, cond, Some, None, Option, ap, ◌∙◌, arith}
 use Rattle.sets.specs.Sets.{has}
 use Rattle.plans.specs.Questions.{Question, base, up}
 use Rattle.plans.specs.declared.predicates.Test.{Test}

@@ -1,4 +1,4 @@
-use Rattle.std.proofs.Common.{ℕ, ◌+◌, ◌*◌, ◌<◌, ◌≤◌, length, Some, None, ◌∙◌, arith, length-set}
+use Rattle.std.proofs.Common.{ℕ, ◌+◌, ◌*◌, ◌<◌, ◌≤◌, length, None, ◌∙◌, arith, length-set}
 use Rattle.catalogue.specs.Fair.{tie_p, tie_q}
 use Rattle.catalogue.proofs.Places.{each_set}
 use Rattle.catalogue.proofs.catalogues.Catalogue.tie.Goals as goal

@@ -1,8 +1,7 @@
-use Rattle.std.proofs.Common.{◌≡◌, length, refl, ap}
+use Rattle.std.proofs.Common.{length, refl}
 use Rattle.std.proofs.lemmas.Result.{err_from_is_err_and}
 use Rattle.catalogue.specs.Asked.{asked}
 use Rattle.solver.specs.Solves.{enough, outcome}
-use Rattle.planner.specs.Calls.{solve_with}
 use Rattle.planner.specs.States.{state_of}
 use Rattle.planner.proofs.Promise.{decided}
 use Rattle.planner.proofs.Solving.{refused_step, solved_step, stands_short, stands_valid, stands_within}
