@@ -1,7 +1,7 @@
 -- A written line reads back.
 use Rattle.std.proofs.Common.{◌≡◌, ℕ, ◌+◌, ◌-◌, ◌*◌, ◌/◌, ◌%◌, ◌<◌, ◌≤◌, true, leb, List, [], ◌∷◌, ◌++◌, length, Some, refl, ap, ◌∙◌, ⊎_elim, arith}
 use Rattle.std.proofs.lemmas.Bool.{le-leb, lt-leb, ne_eqb, and_from, and_right, cond-true, cond-false, cond_both, cases_lt}
-use Rattle.std.specs.List.{AllByRecursion as All}
+use Rattle.std.specs.List.{AllByRecursion}
 use Rattle.frames.specs.Hexadecimal.{hex_digit, hex_digits, hex_line}
 use Rattle.frames.specs.Laws.{LinesReadBack}
 use Rattle.frames.specs.Lines.{PlainLine, line, longer, before, lines_of, digit_value, pair_value, byte_value, byte_before, pairs, frame_bytes}
@@ -29,7 +29,7 @@ byte_back b h =
     ∙ ap (λ o. pair_value (Some (b / 16)) o) (digit_back (b % 16) (omega arith))
     ∙ ap Some (let e : b / 16 * 16 + b % 16 ≡ b = omega arith in e)
 
-pairs_back : (bytes : List ℕ) → All (λ b. b < 256) bytes → pairs (hex_digits bytes) ≡ Some bytes
+pairs_back : (bytes : List ℕ) → AllByRecursion (λ b. b < 256) bytes → pairs (hex_digits bytes) ≡ Some bytes
 unfolding pairs hex_digits
 pairs_back [] h = refl
 pairs_back (b ∷ bs) h =
@@ -40,7 +40,7 @@ unfolding hex_digits
 some_digits [] h = absurd (omega arith)
 some_digits (b ∷ bs) h = le-leb _ _ (omega arith)
 
-bytes_back : (bytes : List ℕ) → All (λ b. b < 256) bytes → 0 < length bytes → frame_bytes (line (hex_digits bytes) true) ≡ Some bytes
+bytes_back : (bytes : List ℕ) → AllByRecursion (λ b. b < 256) bytes → 0 < length bytes → frame_bytes (line (hex_digits bytes) true) ≡ Some bytes
 bytes_back bytes h some = cond-true _ _ _ (some_digits bytes some) ∙ pairs_back bytes h
 
 -- a digit is no 0A

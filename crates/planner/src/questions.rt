@@ -7,7 +7,7 @@ use crate::Held;
 use pricing::PriceModel;
 
 mod changes;
-mod plans;
+mod planning;
 
 // The model is kept for good. What stands is a valid plan of the question as it stands.
 #[derive(Drop)]

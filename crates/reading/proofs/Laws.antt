@@ -1,6 +1,6 @@
 -- Reading and writing undo each other.
 use Rattle.std.proofs.Common.{◌≡◌, ℕ, zero, suc, ◌≤◌, Bool, true, false, eqb, List, [], ◌∷◌, ◌++◌, length, get_or, ℤ, pos, negsuc, neg_ℤ, Ok, Err, Result, sym, refl, ap, ◌∙◌, inl, inr, ⊎_elim, arith}
-use Rattle.std.specs.List.{AllByRecursion as All}
+use Rattle.std.specs.List.{AllByRecursion}
 use Rattle.std.proofs.lemmas.Int.{ints}
 use Rattle.std.proofs.lemmas.Bool.{false≢true, cases_Bool, eqb-true, eqb-false, ne_eqb}
 use Rattle.reading.specs.declared.ReadingFault.{ReadingFault}
@@ -43,18 +43,18 @@ reads_from minus n (two {a} {b} {x} {y} {z} h w e) f k =
       no_minus_on_zero = k;
     }
 
-one_whole : (whole : List ℕ) (x y z : ℕ) → length whole ≡ 1 → All Digit whole → All Digit (x ∷ y ∷ z ∷ []) → Unsigned (whole ++ (46 ∷ x ∷ y ∷ z ∷ [])) (value (whole ++ (x ∷ y ∷ z ∷ [])))
+one_whole : (whole : List ℕ) (x y z : ℕ) → length whole ≡ 1 → AllByRecursion Digit whole → AllByRecursion Digit (x ∷ y ∷ z ∷ []) → Unsigned (whole ++ (46 ∷ x ∷ y ∷ z ∷ [])) (value (whole ++ (x ∷ y ∷ z ∷ [])))
 one_whole whole x y z l h k =
-    by_elements (λ w. All Digit w → Unsigned (w ++ (46 ∷ x ∷ y ∷ z ∷ [])) (value (w ++ (x ∷ y ∷ z ∷ [])))) 1 whole l (λ d. one (d.0, k) refl) h
+    by_elements (λ w. AllByRecursion Digit w → Unsigned (w ++ (46 ∷ x ∷ y ∷ z ∷ [])) (value (w ++ (x ∷ y ∷ z ∷ [])))) 1 whole l (λ d. one (d.0, k) refl) h
 
-two_whole : (whole : List ℕ) (x y z : ℕ) → length whole ≡ 2 → All Digit whole → (get_or whole 0 0 ≡ 48 → ⊥) → All Digit (x ∷ y ∷ z ∷ []) → Unsigned (whole ++ (46 ∷ x ∷ y ∷ z ∷ [])) (value (whole ++ (x ∷ y ∷ z ∷ [])))
+two_whole : (whole : List ℕ) (x y z : ℕ) → length whole ≡ 2 → AllByRecursion Digit whole → (get_or whole 0 0 ≡ 48 → ⊥) → AllByRecursion Digit (x ∷ y ∷ z ∷ []) → Unsigned (whole ++ (46 ∷ x ∷ y ∷ z ∷ [])) (value (whole ++ (x ∷ y ∷ z ∷ [])))
 two_whole whole x y z l h n k =
-    by_elements (λ w. All Digit w → (get_or w 0 0 ≡ 48 → ⊥) → Unsigned (w ++ (46 ∷ x ∷ y ∷ z ∷ [])) (value (w ++ (x ∷ y ∷ z ∷ [])))) 2 whole l
+    by_elements (λ w. AllByRecursion Digit w → (get_or w 0 0 ≡ 48 → ⊥) → Unsigned (w ++ (46 ∷ x ∷ y ∷ z ∷ [])) (value (w ++ (x ∷ y ∷ z ∷ [])))) 2 whole l
     (λ d f. two (d.0, (d.1.0, k)) f refl) h n
 
 unsigned_from : {t : List ℕ} {n : ℤ} (r : Reads t n) → Unsigned (r.whole ++ (point ++ r.fraction)) (value (r.whole ++ r.fraction))
 unsigned_from r =
-    by_elements (λ f. All Digit f → Unsigned (r.whole ++ (point ++ f)) (value (r.whole ++ f))) 3 r.fraction r.three
+    by_elements (λ f. AllByRecursion Digit f → Unsigned (r.whole ++ (point ++ f)) (value (r.whole ++ f))) 3 r.fraction r.three
     (λ k. ⊎_elim
     (λ l. one_whole r.whole _ _ _ l r.whole_digits k)
     (λ l. two_whole r.whole _ _ _ l r.whole_digits (r.no_needless_zero l) k)

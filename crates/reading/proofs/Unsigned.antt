@@ -1,6 +1,6 @@
 -- Readings without their sign, as characters that are written out.
 use Rattle.std.proofs.Common.{◌≡◌, ℕ, ◌+◌, ◌*◌, ◌/◌, ◌%◌, ◌≤◌, Bool, true, false, cond, not, ◌&&◌, eqb, leb, List, [], ◌∷◌, length, get_or, Ok, Err, Result, sym, refl, ap, ◌∙◌, ⊎_elim, arith}
-use Rattle.std.specs.List.{AllByRecursion as All}
+use Rattle.std.specs.List.{AllByRecursion}
 use Rattle.std.proofs.lemmas.Bool.{cases_Bool, cases_eq, eqb-true, eqb-false, eq-eqb, ne_eqb, leb-true, le-leb, and_parts, and_from, not-true}
 use Rattle.reading.specs.declared.ReadingFault.{ReadingFault}
 use Rattle.reading.specs.declared.ReadingFault.TheVariants.{WrongForm}
@@ -11,17 +11,17 @@ use Rattle.reading.proofs.Lists.{by_elements}
 
 -- the text u is a reading without a sign, of m thousandths
 pub data Unsigned : List ℕ → ℕ → Type 0 where
-  one : {a x y z m : ℕ} → All Digit (a ∷ x ∷ y ∷ z ∷ []) → m ≡ value (a ∷ x ∷ y ∷ z ∷ []) → Unsigned (a ∷ 46 ∷ x ∷ y ∷ z ∷ []) m
-  two : {a b x y z m : ℕ} → All Digit (a ∷ b ∷ x ∷ y ∷ z ∷ []) → (a ≡ 48 → ⊥) → m ≡ value (a ∷ b ∷ x ∷ y ∷ z ∷ []) → Unsigned (a ∷ b ∷ 46 ∷ x ∷ y ∷ z ∷ []) m
+  one : {a x y z m : ℕ} → AllByRecursion Digit (a ∷ x ∷ y ∷ z ∷ []) → m ≡ value (a ∷ x ∷ y ∷ z ∷ []) → Unsigned (a ∷ 46 ∷ x ∷ y ∷ z ∷ []) m
+  two : {a b x y z m : ℕ} → AllByRecursion Digit (a ∷ b ∷ x ∷ y ∷ z ∷ []) → (a ≡ 48 → ⊥) → m ≡ value (a ∷ b ∷ x ∷ y ∷ z ∷ []) → Unsigned (a ∷ b ∷ 46 ∷ x ∷ y ∷ z ∷ []) m
 
-digits_from : (cs : List ℕ) → are_digits cs ≡ true → All Digit cs
+digits_from : (cs : List ℕ) → are_digits cs ≡ true → AllByRecursion Digit cs
 digits_from [] e = tt
 digits_from (c ∷ cs) e =
     let p = and_parts (leb 48 c && leb c 57) (are_digits cs) e in
     let q = and_parts (leb 48 c) (leb c 57) p.0 in
     ((leb-true 48 c q.0, leb-true c 57 q.1), digits_from cs p.1)
 
-are_digits_from : (cs : List ℕ) → All Digit cs → are_digits cs ≡ true
+are_digits_from : (cs : List ℕ) → AllByRecursion Digit cs → are_digits cs ≡ true
 are_digits_from [] h = refl
 are_digits_from (c ∷ cs) h =
     and_from (leb 48 c && leb c 57) (are_digits cs)
@@ -36,7 +36,7 @@ passed : (b : Bool) (r : Result ℕ ReadingFault) (m : ℕ) → cond b r (Err Wr
 passed true r m e = (refl, e)
 passed false r m e = absurd (err_is_no_ok WrongForm m e)
 
-counted : (cs : List ℕ) (m : ℕ) → digits_value cs ≡ Ok m → All Digit cs × (m ≡ value cs)
+counted : (cs : List ℕ) (m : ℕ) → digits_value cs ≡ Ok m → AllByRecursion Digit cs × (m ≡ value cs)
 counted cs m e = let p = passed (are_digits cs) (Ok (value cs)) m e in (digits_from cs p.0, let q = p.1 in cc)
 
 -- `unsigned-reading` answers Ok m just where the text is a reading of m
@@ -80,7 +80,7 @@ unsigned_bound (one h e) = omega arith
 unsigned_bound (two h n e) = omega arith
 
 -- the digits of a number are those that it was made of
-places : (a b x y z m : ℕ) → All Digit (a ∷ b ∷ x ∷ y ∷ z ∷ []) → m ≡ value (a ∷ b ∷ x ∷ y ∷ z ∷ []) → five_digits m ≡ a ∷ b ∷ x ∷ y ∷ z ∷ []
+places : (a b x y z m : ℕ) → AllByRecursion Digit (a ∷ b ∷ x ∷ y ∷ z ∷ []) → m ≡ value (a ∷ b ∷ x ∷ y ∷ z ∷ []) → five_digits m ≡ a ∷ b ∷ x ∷ y ∷ z ∷ []
 places a b x y z m h e =
     let ea : 48 + m / 10_000 % 10 ≡ a = omega arith in
     let eb : 48 + m / 1_000 % 10 ≡ b = omega arith in
@@ -105,7 +105,7 @@ remade m h =
 
 pub unsigned_has_text : (m : ℕ) → m ≤ 99_999 → Unsigned (laid false (five_digits m)) m
 unsigned_has_text m h =
-    let digits : All Digit (five_digits m) = omega arith in
+    let digits : AllByRecursion Digit (five_digits m) = omega arith in
     ⊎_elim
     (λ (w : last_digit (m / 10_000) ≡ 48).
     rw (eq-eqb (last_digit (m / 10_000)) 48 w) (one {m = m} digits.1 (rw w at (remade m h))))

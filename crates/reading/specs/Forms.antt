@@ -1,6 +1,6 @@
 -- Which texts are readings, and of which numbers: the relation `Reads` between a text and its number of thousandths.
 use Rattle.std.specs.Prelude.{◌≡◌, ℕ, ◌+◌, ◌-◌, ◌*◌, ◌≤◌, Bool, true, false, ◌⊎◌, List, [], ◌∷◌, ◌++◌, length, ℤ, pos, negsuc, neg_ℤ, ◌≤ℤ◌, codes, ◌≢◌, slice_index}
-use Rattle.std.specs.List.{AllByRecursion as All}
+use Rattle.std.specs.List.{AllByRecursion}
 
 -- the characters '0' to '9' are 48 to 57
 abbrev pub Digit : ℕ → Type 0
@@ -31,10 +31,10 @@ pub record Reads (t : List ℕ) (n : ℤ) : Type 0 where
   pub whole : List ℕ
   pub fraction : List ℕ
   pub parts : t ≡ sign minus ++ (whole ++ (point ++ fraction))
-  pub whole_digits : All Digit whole
+  pub whole_digits : AllByRecursion Digit whole
   pub one_or_two : (length whole ≡ 1) ⊎ (length whole ≡ 2)
   pub no_needless_zero : length whole ≡ 2 → slice_index whole 0 ≢ 48
-  pub fraction_digits : All Digit fraction
+  pub fraction_digits : AllByRecursion Digit fraction
   pub three : length fraction ≡ 3
   pub number : n ≡ signed minus (value (whole ++ fraction))
   pub no_minus_on_zero : minus ≡ true → n ≢ pos 0
