@@ -21,7 +21,7 @@ pub enum Choice {
 }
 
 // The choice of the row, unless it has none.
-pub(crate) fn choice_at(choices: &[u16], tested: SmallSet, row: Row) -> Option<Choice>
+pub fn choice_at(choices: &[u16], tested: SmallSet, row: Row) -> Option<Choice>
     ensures { Says (choice_in choices.now tested.bits row.tables.bits row.tests.bits) row.tables.bits row.tests.bits result }
 {
     let place = position(row, tested);

@@ -13,6 +13,7 @@ ghost use Rattle.readoff.specs.Written.{ReadOff};
 mod choices;
 mod reading;
 
+pub use choices::{Choice, choice_at};
 use reading::read_row;
 use sets::{Row, SmallSet};
 
