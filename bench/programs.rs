@@ -15,7 +15,7 @@ pub fn name(model: Model) -> &'static str {
 // What a program writes for the input.
 pub fn run(model: Model, input: &[u8]) -> Result<String, String> {
     let failed = |why: std::io::Error| format!("program {}: {why}", name(model));
-    let mut child = Command::new(format!("target/bin/{}", name(model)))
+    let mut child = Command::new(format!("crates/{0}/out/{0}", name(model)))
         .stdin(Stdio::piped())
         .stdout(Stdio::piped())
         .spawn()
