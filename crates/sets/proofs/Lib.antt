@@ -7,3 +7,4 @@ pub mod Positions
 pub mod Loops
 pub mod Filling
 pub mod Order
+pub mod Fives

@@ -22,6 +22,14 @@ impl<'a, T: Copy> Ragged<'a, T> {
         Ragged { cells, tested }
     }
 
+    // All the cells, each at its row's place.
+    pub fn cells(&self) -> &[T]
+        ensures { result.now ≡ self.now.cells.now }
+    {
+        let all: &[T] = self.cells;
+        all
+    }
+
     // What the cell of the row holds, if there is such a cell.
     pub fn get(&self, row: Row) -> Option<T>
         ensures { result ≡ slice_get self.now.cells.now (place_of self.now.tested.bits row.tables.bits row.tests.bits) }
