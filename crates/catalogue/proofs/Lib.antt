@@ -3,3 +3,8 @@ pub mod Scaling
 pub mod From
 pub mod Below
 pub mod Tested
+pub mod OneWay
+pub mod Near
+pub mod Inside
+pub mod Cutting
+pub mod Agreeing

@@ -1,5 +1,5 @@
 -- What holds of each place of a list holds after one is set.
-use Rattle.std.proofs.Common.{◌≡◌, ℕ, zero, suc, ◌<◌, Bool, true, false, cond, List, length, get_or, set, replicate, sym, refl, ap, ◌∙◌, subst, ⊎_elim, get_or-set_other, get_or-set_same}
+use Rattle.std.proofs.Common.{◌≡◌, ℕ, zero, suc, ◌<◌, Bool, true, false, cond, ◌≢◌, List, length, get_or, set, replicate, sym, refl, ap, ◌∙◌, subst, ⊎_elim, get_or-set_other, get_or-set_same}
 use Rattle.std.proofs.lemmas.Bool.{cases_eq}
 use Rattle.plans.specs.Questions.{Question}
 
@@ -9,6 +9,10 @@ each_set P xs i v d l p h k =
     (λ e. subst P (sym (ap (λ (n : ℕ). get_or (set xs i v) n d) e ∙ get_or-set_same xs i v d l)) p)
     (λ ne. subst P (sym (get_or-set_other xs i k v d ne)) (h k))
     (cases_eq k i)
+
+-- A place keeps its value where another is set.
+pub other_set : {A : Type 0} (xs : List A) (i k : ℕ) (v d : A) → k ≢ i → get_or xs k d ≡ d → get_or (set xs i v) k d ≡ d
+other_set xs i k v d ne e = get_or-set_other xs i k v d ne ∙ e
 
 -- Every place of a list of one value has it.
 pub each_same : {A : Type 0} (v : A) (n k : ℕ) → get_or (replicate n v) k v ≡ v

@@ -3,3 +3,4 @@ pub mod Refusals
 pub mod Changes
 pub mod Asked
 pub mod Members
+pub mod Within

@@ -3,6 +3,8 @@
 
 mod catalogues;
 mod changes;
+mod cuts;
+mod known_sizes;
 mod links;
 mod refusals;
 mod sizes;
@@ -10,4 +12,5 @@ mod tables;
 
 pub use catalogues::Catalogue;
 pub use changes::MOST_ROWS;
+pub use cuts::Cuts;
 pub use refusals::ChangeRefusal;

@@ -31,7 +31,7 @@ impl Catalogue {
     }
 
     // The costs of the ties of a table to those of a set, added up.
-    fn costs_to(&self, table: u8, others: SmallSet) -> u32
+    pub(crate) fn costs_to(&self, table: u8, others: SmallSet) -> u32
         ensures value { result ≡ sum_below (λ j. (if has others.bits j then cost_of (asked self.now) table j else 0)) self.now.count }
         ensures bound { result ≤ 655350 }
     {

@@ -58,7 +58,7 @@ impl Catalogue {
     }
 
     // The size of a table and of those of the set above it, from the size of those.
-    fn size_above(&self, table: u8, tables: SmallSet, tests: SmallSet, rest: u32) -> u32
+    pub(crate) fn size_above(&self, table: u8, tables: SmallSet, tests: SmallSet, rest: u32) -> u32
         requires { table < 10 }
         ensures value { result ≡ min 16777215 (narrowed_by (asked self.now) table (from (table + 1) self.now.count tables.bits) (base_of (asked self.now) tests.bits table * rest)) }
     {

@@ -7,3 +7,4 @@ pub mod Steps
 pub mod Summing
 pub mod Turns
 pub mod Wholes
+pub mod Sides

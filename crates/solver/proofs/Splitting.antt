@@ -1,26 +1,22 @@
--- When a set is split, test by test.
-use Rattle.std.proofs.Common.{◌≡◌, ℕ, ◌-◌, ◌<◌, ◌≤◌, Bool, true, false, ◌&&◌, eqb, ltb, sym, ap, ◌∙◌, arith}
-use Rattle.std.proofs.lemmas.Bool.{and_left, and_right, le-ltb, lt-ltb, eqb-true, eqb-false}
-use Rattle.sets.specs.Sets.{within}
+-- When a set is split.
+use Rattle.std.proofs.Common.{◌≡◌, ℕ, ◌-◌, ◌<◌, Bool, false, ◌&&◌, ltb, ap, ◌∙◌, arith}
+use lib.Bits.{bit_and}
+use Rattle.std.proofs.lemmas.Bool.{and_left, and_right, le-ltb, lt-ltb, eq-eqb, ne_eqb}
+use Rattle.sets.specs.Sets.{◌⊆◌, within}
 use Rattle.plans.specs.Questions.{Question, linked}
 use Rattle.plans.specs.Recurrence.{splits}
 
 module _ (Q : Question) (R L : ℕ) where
-  pub splits_empty : true ≡ eqb L 0 → false ≡ splits Q R L
+  pub splits_none : L ≡ 0 → splits Q R L ≡ false
   unfolding splits
-  splits_empty e = let z = eqb-true L 0 (sym e) in sym (and_left (ltb 0 L) _ (le-ltb 0 L (omega arith)))
+  splits_none e = and_left (ltb 0 L) _ (le-ltb 0 L (omega arith))
 
-  pub splits_large : R ≤ L → false ≡ splits Q R L
+  pub splits_outside : (L ⊆ R → ⊥) → splits Q R L ≡ false
   unfolding splits
-  splits_large h = sym (and_right (ltb 0 L) _ (and_left (ltb L R) _ (le-ltb L R h)))
+  splits_outside ne = and_right (ltb 0 L) _ (and_right (ltb L R) _ (and_left (within L R) _ (ne_eqb (bit_and L R) L ne)))
 
-  pub splits_outside : false ≡ within L R → false ≡ splits Q R L
+  pub splits_linked : 0 < L → L < R → L ⊆ R → splits Q R L ≡ linked Q L (R - L)
   unfolding splits
-  splits_outside e = sym (and_right (ltb 0 L) _ (and_right (ltb L R) _ (and_left (within L R) _ (sym e))))
-
-  pub splits_linked : false ≡ eqb L 0 → L < R → true ≡ within L R → linked Q L (R - L) ≡ splits Q R L
-  unfolding splits
-  splits_linked e h w =
-      let some : ltb 0 L ≡ true = lt-ltb 0 L (let ne = eqb-false L 0 (sym e) in omega arith) in
-      sym (ap (λ (b : Bool). b && (ltb L R && (within L R && linked Q L (R - L)))) some ∙ ap (λ (b : Bool). b && (within L R && linked Q L (R - L))) (lt-ltb L R h)
-      ∙ ap (λ (b : Bool). b && linked Q L (R - L)) (sym w))
+  splits_linked some proper part =
+      ap (λ (b : Bool). b && (ltb L R && (within L R && linked Q L (R - L)))) (lt-ltb 0 L some) ∙ ap (λ (b : Bool). b && (within L R && linked Q L (R - L))) (lt-ltb L R proper)
+      ∙ ap (λ (b : Bool). b && linked Q L (R - L)) (eq-eqb (bit_and L R) L part)

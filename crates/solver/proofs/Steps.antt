@@ -25,7 +25,7 @@ use Rattle.solver.proofs.Nth.{nth_set_same, nth_set_other}
 pub own_tables : (Q : Question) (R S : ℕ) → Own Q R S → S ⊆ R
 own_tables Q R S h = part_chain S (tests_on (all_tests Q) R) R h (meet_part_left R (all_tests Q))
 
-own_tests : (Q : Question) (R S : ℕ) → Own Q R S → S ⊆ all_tests Q
+pub own_tests : (Q : Question) (R S : ℕ) → Own Q R S → S ⊆ all_tests Q
 own_tests Q R S h = part_chain S (tests_on (all_tests Q) R) (all_tests Q) h (meet_part R (all_tests Q))
 
 pub own_by : (Q : Question) (R S : ℕ) → S ⊆ R → S ⊆ all_tests Q → Own Q R S

@@ -1,5 +1,5 @@
 -- One candidate more: the best so far, and how many were there.
-use Rattle.std.proofs.Common.{◌≡◌, ℕ, ◌+◌, ◌≤◌, Bool, true, false, cond, is_some, Option, sym, refl, ap, ◌∙◌, subst, ap₂, add-one, arith}
+use Rattle.std.proofs.Common.{◌≡◌, ℕ, zero, suc, ◌+◌, ◌<◌, ◌≤◌, Bool, true, false, cond, is_some, Some, None, Option, sym, refl, ap, ◌∙◌, subst, ap₂, add-one, arith}
 use Rattle.pricing.specs.Models.{Model}
 use Rattle.plans.specs.declared.entries.Entry.{Entry}
 use Rattle.plans.specs.Entries.{better, best_entry}
@@ -42,3 +42,14 @@ module _ {P : Type 0} (m : Model P) (a : Option (Entry P)) (k : ℕ) (f : ℕ �
 
   pub tries_end : (n e : ℕ) (best : Option (Entry P)) (tries : ℕ) → Tries m a k f n best tries → n ≡ e → Tries m a k f e best tries
   tries_end n e best tries h z = subst (λ (x : ℕ). Tries m a k f x best tries) z h
+
+  -- numbers that are no candidates
+  pub tries_skip : (d n e : ℕ) (best : Option (Entry P)) (tries : ℕ) → e ≡ n + d → ((i : ℕ) → n ≤ i → i < e → f i ≡ None) → Tries m a k f n best tries → Tries m a k f e best tries
+  tries_skip zero n e best tries z none h = tries_end n e best tries h (omega arith)
+  tries_skip (suc d) n e best tries z none h =
+      tries_skip d (n + 1) e best tries (omega arith) (λ i l u. none i (omega arith) u)
+      (tries_more n best best tries tries None h (sym (none n (omega arith) (omega arith))) (sym (kept best)) (omega arith))
+    where
+      kept : (b : Option (Entry P)) → better m b None ≡ b
+      kept None = refl
+      kept (Some b) = refl

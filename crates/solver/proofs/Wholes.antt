@@ -1,5 +1,5 @@
 -- The whole question's plan, from rows that are filled.
-use Rattle.std.proofs.Common.{◌≡◌, ℕ, zero, suc, ◌^◌, ◌<◌, ◌≤◌, Bool, true, false, cond, List, [], ◌∷◌, length, get_or, take, drop, Some, None, Ok, Err, Option, sym, refl, ap, ◌∙◌, subst, ap₂, arith, take_at, pow_pos}
+use Rattle.std.proofs.Common.{◌≡◌, ℕ, ◌^◌, ◌<◌, ◌≤◌, Bool, true, false, cond, List, length, get_or, take, drop, Some, None, Ok, Err, Option, sym, refl, ap, ◌∙◌, subst, ap₂, arith, take_at, pow_pos}
 use lib.Bits.{and_self}
 use Rattle.std.specs.List.{slice_get}
 use Rattle.std.proofs.lemmas.Option.{slice_get-get_or, slice_get_past}
@@ -23,13 +23,9 @@ use Rattle.solver.specs.Solved.{Own, place}
 use Rattle.solver.specs.Solves.{rows_of, Readable, whole_plan, Answers}
 use Rattle.solver.specs.declared.solutions.Solution.{Solution}
 use Rattle.solver.specs.declared.solutions.SolveRefusal.TheVariants.{NoPlan, PastCount}
+use Rattle.solver.proofs.Nth.{nth_there}
 use Rattle.solver.proofs.Steps.{own_by, some_code}
 use Rattle.solver.proofs.Turns.{tests_below}
-
-nth_there : {X : Type 0} (xs : List X) (i : ℕ) (v d : X) → slice_get xs i ≡ Some v → get_or xs i d ≡ v
-nth_there [] i v d e = let z : ◌≡◌ {A = ℕ} 0 1 = cc in absurd (omega arith)
-nth_there (x ∷ xs) zero v d e = cc
-nth_there (x ∷ xs) (suc i) v d e = nth_there xs i v d e
 
 -- ---- the price at a place
 

@@ -7,6 +7,7 @@ use Rattle.plans.specs.Questions.{Question}
 use Rattle.plans.specs.Recurrence.{found}
 use Rattle.plans.specs.Entries.{joining_entry, testing_entry}
 use Rattle.plans.specs.declared.entries.Entry.{Entry}
+use Rattle.solver.specs.declared.lists.Side.{Side}
 
 -- A choice of 0 is no entry, whatever price stands beside it.
 abbrev pub as_entry : {P : Type 0} → Option P → Option ℕ → Option (Entry P)
@@ -37,3 +38,9 @@ abbrev pub price_at : {P : Type 0} → Option P → Option ℕ → Option P
 price_at None c = None
 price_at (Some p) None = None
 price_at (Some p) (Some c) = cond (c == 0) None (Some p)
+
+-- What a candidate reads of one of its parts: the price of its plan, and its size.
+abbrev pub side_of : {P : Type 0} → Option (Entry P) → Option ℕ → Option (Side P)
+side_of None n = None
+side_of (Some e) None = None
+side_of (Some e) (Some n) = Some (record { price = e.price; size = n })

@@ -25,3 +25,9 @@ pub record Solved {P : Type 0} (m : Model P) (Q : Question) (p : ℕ) (prices₀
   pub prices_rest : (k : ℕ) → p ≤ k → slice_get prices k ≡ slice_get prices₀ k
   pub sizes_rest : (k : ℕ) → p ≤ k → slice_get sizes k ≡ slice_get sizes₀ k
   pub choices_rest : (k : ℕ) → p ≤ k → slice_get choices k ≡ slice_get choices₀ k
+
+-- It is the turn of the tables R and the tests S, where T have a test: the rows before have their sizes.
+pub record Turn (Q : Question) (T R S : ℕ) (sizes : List ℕ) : Type 0 where
+  pub tested : T ≡ all_tests Q
+  pub own : Own Q R S
+  pub sized : (R' S' : ℕ) → Own Q R' S' → place Q R' S' < place Q R S → slice_get sizes (place Q R' S') ≡ Some (size Q R' S')

@@ -2,14 +2,17 @@
 ghost use Rattle.std.specs.Prelude.{◌≡◌, ◌+◌, ◌-◌, ◌<◌, ◌≤◌, is_some, if◌then◌else◌, None};
 ghost use Rattle.catalogue.specs.Asked.{asked};
 ghost use Rattle.plans.specs.Entries.{alone_entry, best_entry, better as better_of, joining_entry, row_entry as entry_by, testing_entry};
-ghost use Rattle.plans.specs.Recurrence.{found, splits as splits_at};
+ghost use Rattle.plans.specs.Questions.{size as size_of_set};
+ghost use Rattle.plans.specs.Recurrence.{found};
 ghost use Rattle.sets.specs.Sets.{◌⊆◌};
 ghost use Rattle.solver.specs.Held.{held, tries_by};
+ghost use Rattle.solver.specs.Solved.{Turn};
 
-use catalogue::Catalogue;
+use crate::lists::{Lists, side_at};
+use catalogue::{Catalogue, Cuts};
 use plans::Entry;
 use pricing::PriceModel;
-use sets::{Ragged, Row, SmallSet};
+use sets::{Row, SmallSet};
 
 // The best entry so far, and how many candidates were there.
 #[derive(Clone, Copy)]
@@ -39,23 +42,6 @@ fn better<M: PriceModel>(
     }
 }
 
-// What the tables hold of a row.
-fn entry_at<P: Copy>(prices: &Ragged<P>, choices: &Ragged<u16>, row: Row) -> Option<Entry<P>>
-    requires { choices.now.tested ≡ prices.now.tested }
-    ensures { result ≡ held prices.now.cells.now choices.now.cells.now prices.now.tested.bits row.tables.bits row.tests.bits }
-{
-    let Some(price) = prices.get(row) else {
-        return None;
-    };
-    let Some(choice) = choices.get(row) else {
-        return None;
-    };
-    if choice == 0 {
-        return None;
-    }
-    Some(Entry { price, choice })
-}
-
 // The other side of the tables, of which the left are some.
 fn other_side(tables: SmallSet, left: SmallSet) -> SmallSet
     requires { left.bits ⊆ tables.bits }
@@ -64,38 +50,25 @@ fn other_side(tables: SmallSet, left: SmallSet) -> SmallSet
     tables.without(left)
 }
 
-// Whether both sides of the tables cut at the left hold a table, and a tie links them.
-fn splits(catalogue: &Catalogue, tables: SmallSet, left: SmallSet) -> bool
-    ensures { result ≡ splits_at (asked catalogue.now) tables.bits left.bits }
-{
-    if left.is_empty() {
-        return false;
-    }
-    if left.bits() >= tables.bits() {
-        return false;
-    }
-    if !left.is_subset(tables) {
-        return false;
-    }
-    catalogue.linked(left, other_side(tables, left))
-}
-
-// The join of the left tables with the others, if both sides have plans and a tie links them.
+// The join of the left tables with the others, if both sides have plans and a tie links them; `size` is that of the row.
 fn join_candidate<M: PriceModel>(
     model: &M,
-    catalogue: &Catalogue,
-    prices: &Ragged<M::Price>,
-    choices: &Ragged<u16>,
+    cuts: &Cuts,
+    lists: &Lists<M::Price>,
     row: Row,
+    size: u32,
     left: SmallSet,
 ) -> Option<Entry<M::Price>>
-    requires { choices.now.tested ≡ prices.now.tested }
-    ensures { result ≡ joining_entry (M.meaning model.now) (asked catalogue.now) (held prices.now.cells.now choices.now.cells.now prices.now.tested.bits) row.tables.bits row.tests.bits left.bits }
+    requires turn { Turn (asked cuts.now.catalogue.now) lists.now.places.now.tested.bits row.tables.bits row.tests.bits lists.now.sizes.now }
+    requires sized { size ≡ size_of_set (asked cuts.now.catalogue.now) row.tables.bits row.tests.bits }
+    requires part { left.bits ⊆ row.tables.bits }
+    requires proper { (0 < left.bits) × (left.bits < row.tables.bits) }
+    ensures { result ≡ joining_entry (M.meaning model.now) (asked cuts.now.catalogue.now) (held lists.now.prices.now lists.now.choices.now lists.now.places.now.tested.bits) row.tables.bits row.tests.bits left.bits }
 {
-    if !splits(catalogue, row.tables, left) {
+    let right = other_side(row.tables, left);
+    if !cuts.linked(left, right) {
         return None;
     }
-    let right = other_side(row.tables, left);
     let left_row = Row {
         tables: left,
         tests: row.tests.intersection(left),
@@ -104,22 +77,15 @@ fn join_candidate<M: PriceModel>(
         tables: right,
         tests: row.tests.intersection(right),
     };
-    let Some(a) = entry_at(prices, choices, left_row) else {
+    let Some(a) = side_at(lists, left_row) else {
         return None;
     };
-    let Some(b) = entry_at(prices, choices, right_row) else {
+    let Some(b) = side_at(lists, right_row) else {
         return None;
     };
-    let price = model.joined(
-        a.price,
-        b.price,
-        catalogue.size(left, left_row.tests),
-        catalogue.size(right, right_row.tests),
-        catalogue.size(row.tables, row.tests),
-        catalogue.across(left, right),
-    );
+    let costs = cuts.across(left, right);
     Some(Entry {
-        price,
+        price: model.joined(a.price, b.price, a.size, b.size, size, costs),
         choice: 4096 + left.bits(),
     })
 }
@@ -128,13 +94,12 @@ fn join_candidate<M: PriceModel>(
 fn test_candidate<M: PriceModel>(
     model: &M,
     catalogue: &Catalogue,
-    prices: &Ragged<M::Price>,
-    choices: &Ragged<u16>,
+    lists: &Lists<M::Price>,
     row: Row,
     table: u8,
 ) -> Option<Entry<M::Price>>
-    requires same { choices.now.tested ≡ prices.now.tested }
-    ensures { result ≡ testing_entry (M.meaning model.now) (asked catalogue.now) (held prices.now.cells.now choices.now.cells.now prices.now.tested.bits) row.tables.bits row.tests.bits table }
+    requires { Turn (asked catalogue.now) lists.now.places.now.tested.bits row.tables.bits row.tests.bits lists.now.sizes.now }
+    ensures { result ≡ testing_entry (M.meaning model.now) (asked catalogue.now) (held lists.now.prices.now lists.now.choices.now lists.now.places.now.tested.bits) row.tables.bits row.tests.bits table }
 {
     if !row.tests.contains(table) {
         return None;
@@ -146,10 +111,10 @@ fn test_candidate<M: PriceModel>(
         tables: row.tables,
         tests: row.tests.without_member(table),
     };
-    let Some(a) = entry_at(prices, choices, below) else {
+    let Some(a) = side_at(lists, below) else {
         return None;
     };
-    let rows = catalogue.charged(table, below.tables, below.tests);
+    let rows = catalogue.charged_rows(table, a.size);
     Some(Entry {
         price: model.tested(a.price, rows, test.cost, test.kind),
         choice: 256 + table as u16,
@@ -198,44 +163,29 @@ fn with_candidate<M: PriceModel>(
     }
 }
 
-// The join whose left set has the number.
-fn numbered_join<M: PriceModel>(
-    model: &M,
-    catalogue: &Catalogue,
-    prices: &Ragged<M::Price>,
-    choices: &Ragged<u16>,
-    row: Row,
-    number: u16,
-) -> Option<Entry<M::Price>>
-    requires same { choices.now.tested ≡ prices.now.tested }
-    requires few { number < 1024 }
-    ensures { result ≡ joining_entry (M.meaning model.now) (asked catalogue.now) (held prices.now.cells.now choices.now.cells.now prices.now.tested.bits) row.tables.bits row.tests.bits number }
-{
-    match SmallSet::from_bits(number) {
-        Some(left) => join_candidate(model, catalogue, prices, choices, row, left),
-        None => None,
-    }
-}
-
 // The best of the joins after an earlier entry, by ascending left set.
 fn best_join<M: PriceModel>(
     model: &M,
-    catalogue: &Catalogue,
-    prices: &Ragged<M::Price>,
-    choices: &Ragged<u16>,
+    cuts: &Cuts,
+    lists: &Lists<M::Price>,
     row: Row,
+    size: u32,
     earlier: Tried<M::Price>,
 ) -> Tried<M::Price>
-    requires same { choices.now.tested ≡ prices.now.tested }
+    requires turn { Turn (asked cuts.now.catalogue.now) lists.now.places.now.tested.bits row.tables.bits row.tests.bits lists.now.sizes.now }
+    requires sized { size ≡ size_of_set (asked cuts.now.catalogue.now) row.tables.bits row.tests.bits }
     requires few { earlier.tries ≤ 10 }
-    ensures best { result.best ≡ best_entry (M.meaning model.now) earlier.best (joining_entry (M.meaning model.now) (asked catalogue.now) (held prices.now.cells.now choices.now.cells.now prices.now.tested.bits) row.tables.bits row.tests.bits) row.tables.bits }
-    ensures tries { result.tries ≡ earlier.tries + found (joining_entry (M.meaning model.now) (asked catalogue.now) (held prices.now.cells.now choices.now.cells.now prices.now.tested.bits) row.tables.bits row.tests.bits) row.tables.bits }
+    ensures best { result.best ≡ best_entry (M.meaning model.now) earlier.best (joining_entry (M.meaning model.now) (asked cuts.now.catalogue.now) (held lists.now.prices.now lists.now.choices.now lists.now.places.now.tested.bits) row.tables.bits row.tests.bits) row.tables.bits }
+    ensures tries { result.tries ≡ earlier.tries + found (joining_entry (M.meaning model.now) (asked cuts.now.catalogue.now) (held lists.now.prices.now lists.now.choices.now lists.now.places.now.tested.bits) row.tables.bits row.tests.bits) row.tables.bits }
     ensures few { result.tries ≤ 2000 }
 {
+    let tables = row.tables;
     let mut so_far = earlier;
-    for number in 0..row.tables.bits() {
-        let candidate = numbered_join(model, catalogue, prices, choices, row, number);
+    let mut left = SmallSet::empty().next_subset(tables);
+    while left.bits() < tables.bits() {
+        let candidate = join_candidate(model, cuts, lists, row, size, left);
         so_far = with_candidate(model, so_far, candidate);
+        left = left.next_subset(tables);
     }
     so_far
 }
@@ -244,20 +194,19 @@ fn best_join<M: PriceModel>(
 fn best_test<M: PriceModel>(
     model: &M,
     catalogue: &Catalogue,
-    prices: &Ragged<M::Price>,
-    choices: &Ragged<u16>,
+    lists: &Lists<M::Price>,
     row: Row,
     earlier: Tried<M::Price>,
 ) -> Tried<M::Price>
-    requires same { choices.now.tested ≡ prices.now.tested }
+    requires turn { Turn (asked catalogue.now) lists.now.places.now.tested.bits row.tables.bits row.tests.bits lists.now.sizes.now }
     requires few { earlier.tries ≤ 2000 }
-    ensures best { result.best ≡ best_entry (M.meaning model.now) earlier.best (testing_entry (M.meaning model.now) (asked catalogue.now) (held prices.now.cells.now choices.now.cells.now prices.now.tested.bits) row.tables.bits row.tests.bits) (asked catalogue.now).count }
-    ensures tries { result.tries ≡ earlier.tries + found (testing_entry (M.meaning model.now) (asked catalogue.now) (held prices.now.cells.now choices.now.cells.now prices.now.tested.bits) row.tables.bits row.tests.bits) (asked catalogue.now).count }
+    ensures best { result.best ≡ best_entry (M.meaning model.now) earlier.best (testing_entry (M.meaning model.now) (asked catalogue.now) (held lists.now.prices.now lists.now.choices.now lists.now.places.now.tested.bits) row.tables.bits row.tests.bits) (asked catalogue.now).count }
+    ensures tries { result.tries ≡ earlier.tries + found (testing_entry (M.meaning model.now) (asked catalogue.now) (held lists.now.prices.now lists.now.choices.now lists.now.places.now.tested.bits) row.tables.bits row.tests.bits) (asked catalogue.now).count }
     ensures few { result.tries ≤ 2010 }
 {
     let mut so_far = earlier;
     for table in 0..catalogue.count() {
-        let candidate = test_candidate(model, catalogue, prices, choices, row, table);
+        let candidate = test_candidate(model, catalogue, lists, row, table);
         so_far = with_candidate(model, so_far, candidate);
     }
     so_far
@@ -279,19 +228,22 @@ fn bare_table<M: PriceModel>(model: &M, catalogue: &Catalogue, row: Row) -> Opti
 pub(crate) fn row_entry<M: PriceModel>(
     model: &M,
     catalogue: &Catalogue,
-    prices: &Ragged<M::Price>,
-    choices: &Ragged<u16>,
+    cuts: &Cuts,
+    lists: &Lists<M::Price>,
     row: Row,
+    size: u32,
 ) -> Tried<M::Price>
-    requires { choices.now.tested ≡ prices.now.tested }
-    ensures best { result.best ≡ entry_by (M.meaning model.now) (asked catalogue.now) (held prices.now.cells.now choices.now.cells.now prices.now.tested.bits) row.tables.bits row.tests.bits }
-    ensures tries { result.tries ≡ tries_by (M.meaning model.now) (asked catalogue.now) (held prices.now.cells.now choices.now.cells.now prices.now.tested.bits) row.tables.bits row.tests.bits }
+    requires cuts { cuts.now.catalogue.now ≡ catalogue.now }
+    requires turn { Turn (asked catalogue.now) lists.now.places.now.tested.bits row.tables.bits row.tests.bits lists.now.sizes.now }
+    requires sized { size ≡ size_of_set (asked catalogue.now) row.tables.bits row.tests.bits }
+    ensures best { result.best ≡ entry_by (M.meaning model.now) (asked catalogue.now) (held lists.now.prices.now lists.now.choices.now lists.now.places.now.tested.bits) row.tables.bits row.tests.bits }
+    ensures tries { result.tries ≡ tries_by (M.meaning model.now) (asked catalogue.now) (held lists.now.prices.now lists.now.choices.now lists.now.places.now.tested.bits) row.tables.bits row.tests.bits }
     ensures few { result.tries ≤ 2010 }
 {
     let bare = Tried {
         best: bare_table(model, catalogue, row),
         tries: 0,
     };
-    let joined = best_join(model, catalogue, prices, choices, row, bare);
-    best_test(model, catalogue, prices, choices, row, joined)
+    let joined = best_join(model, cuts, lists, row, size, bare);
+    best_test(model, catalogue, lists, row, joined)
 }

@@ -2,6 +2,7 @@
 #![tactic(auto)]
 
 mod candidates;
+mod lists;
 mod rows;
 mod solutions;
 mod solving;

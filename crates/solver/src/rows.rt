@@ -7,13 +7,14 @@ ghost use Rattle.plans.specs.Recurrence.{all_tries};
 ghost use Rattle.sets.specs.Rows.{place_of, row_count, tests_on};
 ghost use Rattle.sets.specs.Sets.{◌⊆◌};
 ghost use Rattle.solver.specs.Held.{choice_of, held, priced, tries_by};
-ghost use Rattle.solver.specs.Solved.{Solved};
+ghost use Rattle.solver.specs.Solved.{Solved, Turn};
 
 use crate::candidates::row_entry;
-use catalogue::Catalogue;
+use crate::lists::{Lists, row_size};
+use catalogue::{Catalogue, Cuts};
 use plans::Entry;
 use pricing::PriceModel;
-use sets::{Ragged, Row, SmallSet, next_row};
+use sets::{Places, Ragged, Row, SmallSet, next_row};
 
 // Writes the price of an entry, if there is one.
 fn put_price<P: Copy>(prices: &mut Ragged<P>, row: Row, entry: Option<Entry<P>>)
@@ -40,12 +41,16 @@ fn choice<P: Copy>(entry: Option<Entry<P>>) -> u16
 fn solve_row<M: PriceModel>(
     model: &M,
     catalogue: &Catalogue,
+    cuts: &Cuts,
+    places: &Places,
     prices: &mut Ragged<M::Price>,
     sizes: &mut Ragged<u32>,
     choices: &mut Ragged<u16>,
     row: Row,
 ) -> u64
-    requires { choices.old.tested ≡ prices.old.tested }
+    requires cuts { cuts.now.catalogue.now ≡ catalogue.now }
+    requires turn { Turn (asked catalogue.now) places.now.tested.bits row.tables.bits row.tests.bits sizes.old.cells.now }
+    requires same { prices.old.tested.bits ≡ places.now.tested.bits }
     ensures prices { prices.new.cells.now ≡ priced prices.old.cells.now (place_of prices.old.tested.bits row.tables.bits row.tests.bits) (entry_by (M.meaning model.now) (asked catalogue.now) (held prices.old.cells.now choices.old.cells.now prices.old.tested.bits) row.tables.bits row.tests.bits) }
     ensures sizes { sizes.new.cells.now ≡ updated sizes.old.cells.now (place_of sizes.old.tested.bits row.tables.bits row.tests.bits) (size (asked catalogue.now) row.tables.bits row.tests.bits) }
     ensures choices { choices.new.cells.now ≡ updated choices.old.cells.now (place_of choices.old.tested.bits row.tables.bits row.tests.bits) (choice_of (entry_by (M.meaning model.now) (asked catalogue.now) (held prices.old.cells.now choices.old.cells.now prices.old.tested.bits) row.tables.bits row.tests.bits)) }
@@ -54,9 +59,16 @@ fn solve_row<M: PriceModel>(
     ensures tries { result ≡ tries_by (M.meaning model.now) (asked catalogue.now) (held prices.old.cells.now choices.old.cells.now prices.old.tested.bits) row.tables.bits row.tests.bits }
     ensures few { result ≤ 2010 }
 {
-    let found = row_entry(model, catalogue, prices, choices, row);
+    let lists = Lists {
+        places,
+        prices: prices.cells(),
+        sizes: sizes.cells(),
+        choices: choices.cells(),
+    };
+    let size = row_size(catalogue, &lists, row);
+    let found = row_entry(model, catalogue, cuts, &lists, row, size);
     put_price(prices, row, found.best);
-    sizes.put(row, catalogue.size(row.tables, row.tests));
+    sizes.put(row, size);
     choices.put(row, choice(found.best));
     found.tries
 }
@@ -72,14 +84,18 @@ fn following(row: Row, tested: SmallSet) -> Row
 }
 
 // Fills all rows, and answers the tries.
-pub(crate) fn solve_rows<M: PriceModel>(
+fn fill_rows<M: PriceModel>(
     model: &M,
     catalogue: &Catalogue,
+    cuts: &Cuts,
+    places: &Places,
     rows: u32,
     prices: &mut [M::Price],
     sizes: &mut [u32],
     choices: &mut [u16],
 ) -> u64
+    requires cuts { cuts.now.catalogue.now ≡ catalogue.now }
+    requires places { places.now.tested.bits ≡ all_tests (asked catalogue.now) }
     requires all { rows ≡ row_count (asked catalogue.now).count (all_tests (asked catalogue.now)) }
     requires enough { (rows ≤ length prices.old) × (rows ≤ length sizes.old) × (rows ≤ length choices.old) }
     ensures solved { Solved (M.meaning model.now) (asked catalogue.now) rows prices.old prices.new sizes.old sizes.new choices.old choices.new }
@@ -95,6 +111,8 @@ pub(crate) fn solve_rows<M: PriceModel>(
         tries += solve_row(
             model,
             catalogue,
+            cuts,
+            places,
             &mut price_table,
             &mut size_table,
             &mut choice_table,
@@ -103,4 +121,25 @@ pub(crate) fn solve_rows<M: PriceModel>(
         row = following(row, tested);
     }
     tries
+}
+
+// The same, with the places of the rows and the cuts of the tables made first.
+pub(crate) fn solve_rows<M: PriceModel>(
+    model: &M,
+    catalogue: &Catalogue,
+    rows: u32,
+    prices: &mut [M::Price],
+    sizes: &mut [u32],
+    choices: &mut [u16],
+) -> u64
+    requires all { rows ≡ row_count (asked catalogue.now).count (all_tests (asked catalogue.now)) }
+    requires enough { (rows ≤ length prices.old) × (rows ≤ length sizes.old) × (rows ≤ length choices.old) }
+    ensures solved { Solved (M.meaning model.now) (asked catalogue.now) rows prices.old prices.new sizes.old sizes.new choices.old choices.new }
+    ensures tries { result ≡ all_tries (M.meaning model.now) (asked catalogue.now) }
+{
+    let places = Places::of(catalogue.tests());
+    let cuts = Cuts::of(catalogue);
+    fill_rows(
+        model, catalogue, &cuts, &places, rows, prices, sizes, choices,
+    )
 }

@@ -7,5 +7,5 @@ use Rattle.solver.proofs.candidates.best_test.Given as goal
 abbrev pub invariant-loop-table : goal.invariant-loop-table
 invariant-loop-table g l =
     Tries (g.M.PriceModel.meaning l.model) l.initial.so_far.best l.initial.so_far.tries
-    (testing_entry (g.M.PriceModel.meaning l.model) (asked l.catalogue) (held l.prices.cells.now l.choices.cells.now l.prices.tested.bits) l.row.tables.bits l.row.tests.bits)
+    (testing_entry (g.M.PriceModel.meaning l.model) (asked l.catalogue) (held l.lists.prices.now l.lists.choices.now l.lists.places.now.tested.bits) l.row.tables.bits l.row.tests.bits)
     l.table l.so_far.best l.so_far.tries

@@ -1,6 +1,6 @@
-use Rattle.std.proofs.Common.{◌≡◌, ◌<◌, ◌≤◌, length, get_or, Some, None, sym, ◌∙◌, subst, arith, length-set}
+use Rattle.std.proofs.Common.{◌≡◌, ◌<◌, ◌≤◌, ◌≢◌, length, get_or, Some, None, sym, ◌∙◌, subst, arith, length-set}
 use Rattle.catalogue.specs.Fair.{test_p, test_q}
-use Rattle.catalogue.proofs.Places.{each_set}
+use Rattle.catalogue.proofs.Places.{each_set, other_set}
 use Rattle.catalogue.proofs.catalogues.Catalogue.correct.Goals as goal
 
 pub invariant_of-self : goal.invariant_of-self
@@ -19,4 +19,9 @@ invariant_of-self c =
       tie_part = q.tie_part;
       test_whole = each_set (λ t. 1 ≤ test_q t) q.tests i _ None in_room (subst (λ t. 1 ≤ test_q t) (sym stood) (q.test_whole i)) q.test_whole;
       test_part = each_set (λ t. test_p t ≤ test_q t) q.tests i _ None in_room (subst (λ t. test_p t ≤ test_q t) (sym stood) (q.test_part i)) q.test_part;
+      no_self = q.no_self;
+      one_way = q.one_way;
+      tie_given = q.tie_given;
+      other_given = q.other_given;
+      test_given = λ k h. other_set q.tests i k _ None (let ne : k ≢ i = omega arith in ne) (q.test_given k h);
     }

@@ -17,6 +17,11 @@ invariant_of-result c =
       tie_part = λ k. subst (λ (t : Option Tie). tie_p t ≤ tie_q t) (sym (each_same None 100 k)) (omega arith);
       test_whole = λ i. subst (λ (t : Option Test). 1 ≤ test_q t) (sym (each_same None 10 i)) (omega arith);
       test_part = λ i. subst (λ (t : Option Test). test_p t ≤ test_q t) (sym (each_same None 10 i)) (omega arith);
+      no_self = λ i l. each_same None 100 (i * 10 + i);
+      one_way = λ i j l k h. each_same None 100 (j * 10 + i);
+      tie_given = λ i j l h. each_same None 100 (i * 10 + j);
+      other_given = λ i j l h. each_same None 100 (i * 10 + j);
+      test_given = λ i h. each_same None 10 i;
     }
 
 pub returns : goal.returns

@@ -16,4 +16,9 @@ invariant_of-self c =
       tie_part = q.tie_part;
       test_whole = q.test_whole;
       test_part = q.test_part;
+      no_self = q.no_self;
+      one_way = q.one_way;
+      tie_given = λ i j l h. q.tie_given i j l (omega arith);
+      other_given = λ i j l h. q.other_given i j l (omega arith);
+      test_given = λ i h. q.test_given i (omega arith);
     }

@@ -4,7 +4,7 @@ use Rattle.sets.specs.declared.small_sets.SmallSet.{SmallSet}
 use Rattle.solver.proofs.Steps.{solved_none}
 use Rattle.solver.proofs.Summing.{tries_before, tries_none, tries_all}
 use Rattle.solver.proofs.Turns.{tests_below, length_priced, solved_turn, tries_turn, next_turn, first_turn, in_room, solved_as}
-use Rattle.solver.proofs.rows.solve_rows.Goals as goal
+use Rattle.solver.proofs.rows.fill_rows.Goals as goal
 
 bits : (a b : SmallSet) (n : ℕ) → a ≡ b → b.bits ≡ n → a.bits ≡ n
 bits a b n e f = ap (λ (s : SmallSet). s.bits) e ∙ f
@@ -20,6 +20,16 @@ loop-place-init g c =
       sym (tries_none _ Q),
       omega arith,
     )
+
+pub solve_row-tries-requires : goal.solve_row-tries-requires
+solve_row-tries-requires g c =
+    let i = c.loop-place.invariant in
+    let here = i.3 c.loop-place-test.true in
+    record {
+      cuts = c.requires.cuts;
+      turn = record { tested = c.requires.places; own = here.0; sized = λ R S own l. i.4.sizes_are R S own (omega (arith, here.1, l)) };
+      same = bits _ _ _ i.0.0 c.tests-tested.ensures ∙ sym c.requires.places;
+    }
 
 pub loop-place-preserved : goal.loop-place-preserved
 loop-place-preserved g c =

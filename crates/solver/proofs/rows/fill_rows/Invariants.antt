@@ -2,7 +2,7 @@ use Rattle.std.proofs.Common.{◌≡◌, ◌*◌, ◌<◌, ◌≤◌, length}
 use Rattle.catalogue.specs.Asked.{asked}
 use Rattle.solver.specs.Solved.{Own, place, Solved}
 use Rattle.solver.proofs.Summing.{tries_before}
-use Rattle.solver.proofs.rows.solve_rows.Given as goal
+use Rattle.solver.proofs.rows.fill_rows.Given as goal
 
 abbrev pub invariant-loop-place : goal.invariant-loop-place
 invariant-loop-place g l =
