@@ -1,7 +1,7 @@
 // Links and costs of any cut of the tables, by look-ups.
 ghost use Rattle.std.specs.Prelude.{◌≡◌, ℕ, ◌+◌, ◌*◌, ◌^◌, ◌<◌, ◌≤◌, length, if◌then◌else◌, slice_index};
 ghost use Rattle.catalogue.specs.Asked.{asked};
-ghost use Rattle.catalogue.specs.Within.{inside as inside_of, near as NearOf};
+ghost use Rattle.catalogue.specs.Within.{inside as inside_of, near as near_of};
 ghost use Rattle.plans.specs.Questions.{across as across_of, all_tables, linked as linked_by};
 
 use crate::Catalogue;
@@ -17,7 +17,7 @@ pub struct Cuts<'a> {
     ghost given: { all.bits ≡ all_tables (asked catalogue.now) },
     ghost all_near: { length near ≡ 1024 },
     ghost all_inside: { length inside ≡ 1024 },
-    ghost nears: { ((x : ℕ) → x ≤ all.bits → slice_index near x ≡ NearOf (asked catalogue.now) x) },
+    ghost nears: { ((x : ℕ) → x ≤ all.bits → slice_index near x ≡ near_of (asked catalogue.now) x) },
     ghost insides: { ((x : ℕ) → x ≤ all.bits → slice_index inside x ≡ inside_of (asked catalogue.now) x) },
 }
 
@@ -77,7 +77,7 @@ fn with_neighbour(catalogue: &Catalogue, near: SmallSet, tables: SmallSet, other
 
 // The tables that a tie links to `tables`.
 fn neighbours(catalogue: &Catalogue, tables: SmallSet) -> SmallSet
-    ensures { result.bits ≡ NearOf (asked catalogue.now) tables.bits }
+    ensures { result.bits ≡ near_of (asked catalogue.now) tables.bits }
 {
     let mut near = SmallSet::empty();
     for other in 0..catalogue.count() {
@@ -88,8 +88,8 @@ fn neighbours(catalogue: &Catalogue, tables: SmallSet) -> SmallSet
 
 // The same, from what is near each smaller set.
 fn near_set(catalogue: &Catalogue, near: &[u16; 1024], tables: SmallSet) -> u16
-    requires { (x : ℕ) → x < tables.bits → slice_index near.now x ≡ NearOf (asked catalogue.now) x }
-    ensures { result ≡ NearOf (asked catalogue.now) tables.bits }
+    requires { (x : ℕ) → x < tables.bits → slice_index near.now x ≡ near_of (asked catalogue.now) x }
+    ensures { result ≡ near_of (asked catalogue.now) tables.bits }
 {
     let Some(table) = tables.lowest() else {
         return 0;
@@ -104,7 +104,7 @@ fn near_set(catalogue: &Catalogue, near: &[u16; 1024], tables: SmallSet) -> u16
 // What is near each of the sets up to `all`.
 fn near_sets(catalogue: &Catalogue, all: SmallSet) -> [u16; 1024]
     ensures all { length result ≡ 1024 }
-    ensures value { (x : ℕ) → x ≤ all.bits → slice_index result x ≡ NearOf (asked catalogue.now) x }
+    ensures value { (x : ℕ) → x ≤ all.bits → slice_index result x ≡ near_of (asked catalogue.now) x }
 {
     let mut near = [0; 1024];
     for bits in 0..all.bits() + 1 {

@@ -19,7 +19,7 @@ fn make<M: PriceModel>(
     choices: &mut [u16],
 ) -> Reply<M::Price>
     ensures made { Made M.meaning question.old (call_of (length prices.old) (length sizes.old) (length choices.old) call.entry) (answer_of result) question.new }
-    ensures lists { Leaves (M.meaning question.old.model) (asked question.old.held.catalogue) (call_of (length prices.entry.now) (length sizes.old) (length choices.old) call.entry) (answer_of result) (record { prices = prices.entry.now; sizes = sizes.old; choices = choices.old }) (record { prices = prices.exit.now; sizes = sizes.new; choices = choices.new }) }
+    ensures lists { Leaves (M.meaning question.old.model) (asked question.old.held.catalogue) (call_of (length prices.old) (length sizes.old) (length choices.old) call.entry) (answer_of result) (record { prices = prices.old; sizes = sizes.old; choices = choices.old }) (record { prices = prices.new; sizes = sizes.new; choices = choices.new }) }
 {
     match call {
         Call::Table { rows } => match question.table(rows) {
@@ -93,7 +93,7 @@ pub fn replay<M: PriceModel>(
     replies: &mut [Reply<M::Price>],
 ) -> Question<M>
     ensures model { result.model ≡ model }
-    ensures run { Run (Works (M.meaning model)) (fresh, record { prices = prices.entry.now; sizes = sizes.old; choices = choices.old }) (map (call_of (length prices.entry.now) (length sizes.old) (length choices.old)) (take (min (length calls.now) (length replies.old)) calls.now)) (map answer_of (take (min (length calls.now) (length replies.old)) replies.new)) (state_of result.held, record { prices = prices.exit.now; sizes = sizes.new; choices = choices.new }) }
+    ensures run { Run (Works (M.meaning model)) (fresh, record { prices = prices.old; sizes = sizes.old; choices = choices.old }) (map (call_of (length prices.old) (length sizes.old) (length choices.old)) (take (min (length calls.now) (length replies.old)) calls.now)) (map answer_of (take (min (length calls.now) (length replies.old)) replies.new)) (state_of result.held, record { prices = prices.new; sizes = sizes.new; choices = choices.new }) }
     ensures rest { drop (min (length calls.now) (length replies.old)) replies.new ≡ drop (min (length calls.now) (length replies.old)) replies.old }
 {
     let mut question = Question::new(model);
