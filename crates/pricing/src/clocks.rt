@@ -9,11 +9,7 @@ use crate::{Kind, PriceModel};
 pub(crate) fn limited(ms: u128) -> u64
     ensures { result ≡ limited_ms ms }
 {
-    if ms > u64::MAX as u128 {
-        u64::MAX
-    } else {
-        ms as u64
-    }
+    ms.min(u64::MAX as u128) as u64
 }
 
 // What a test adds.

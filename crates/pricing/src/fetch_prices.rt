@@ -3,7 +3,7 @@ ghost use Rattle.std.specs.Prelude.{T};
 ghost use Rattle.pricing.specs.Counts.{counts};
 
 // Fetches, and then milliseconds. Only the price past the count has as many fetches as the limit.
-#[derive(Clone, Copy, PartialEq, Eq, Debug)]
+#[derive(Clone, Copy, PartialEq, Eq, PartialOrd, Ord, Debug)]
 pub struct FetchPrice {
     pub fetches: u32,
     pub ms: u64,

@@ -73,7 +73,7 @@ impl PriceModel for FetchesFirst {
     }
 
     fn at_most(&self, a: FetchPrice, b: FetchPrice) -> bool {
-        a.fetches < b.fetches || a.fetches == b.fetches && a.ms <= b.ms
+        a <= b
     }
 
     fn past(&self, price: FetchPrice) -> bool {

@@ -1,33 +1,38 @@
 // The kind of a test.
 ghost use Rattle.std.specs.Prelude.{◌≡◌};
-ghost use Rattle.pricing.specs.Kinds.{kind_number, kind_of};
+ghost use Rattle.pricing.specs.Kinds.{NumberOf, kind_number};
 
 // A look reads the catalogue; a fetch sends the gripper for a cartridge.
 #[derive(Clone, Copy, PartialEq, Eq, Debug)]
 pub enum Kind {
-    Look,
-    Fetch,
+    Look = 0,
+    Fetch = 1,
 }
+
+// A number that no kind has.
+#[derive(Clone, Copy, PartialEq, Eq, Debug)]
+pub struct NoSuchKind(pub u8);
 
 impl Kind {
     // 0 for a look, 1 for a fetch.
     pub fn number(self) -> u8
         ensures { result ≡ kind_number self }
     {
-        match self {
-            Kind::Look => 0,
-            Kind::Fetch => 1,
-        }
+        self as u8
     }
+}
 
-    // The kind that has this number; none but 0 and 1 has one.
-    pub fn from_number(number: u8) -> Option<Kind>
-        ensures { result ≡ kind_of number }
-    {
+// The kind that has this number; none but 0 and 1 has one.
+impl TryFrom<u8> for Kind {
+    type Error = NoSuchKind;
+
+    ghost try_from_gives = { NumberOf };
+
+    fn try_from(number: u8) -> Result<Kind, NoSuchKind> {
         match number {
-            0 => Some(Kind::Look),
-            1 => Some(Kind::Fetch),
-            _ => None,
+            0 => Ok(Kind::Look),
+            1 => Ok(Kind::Fetch),
+            _ => Err(NoSuchKind(number)),
         }
     }
 }

@@ -11,6 +11,6 @@ mod printing;
 pub use clocks::Clock;
 pub use fetch_prices::FetchPrice;
 pub use fetches::{FetchesFirst, one_price_is_past_the_count};
-pub use kinds::Kind;
+pub use kinds::{Kind, NoSuchKind};
 pub use models::PriceModel;
 pub use printing::{PRICE_ROOM, PrintableModel};

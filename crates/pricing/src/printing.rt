@@ -10,27 +10,6 @@ use crate::{Clock, FetchPrice, FetchesFirst, PriceModel};
 // A price has at most so many bytes.
 pub const PRICE_ROOM: usize = 12;
 
-fn four_bytes(n: u32) -> [u8; 4]
-    ensures { result ≡ in_bytes 4 n }
-{
-    n.to_be_bytes()
-}
-
-fn eight_bytes(n: u64) -> [u8; 8]
-    ensures { result ≡ in_bytes 8 n }
-{
-    n.to_be_bytes()
-}
-
-// The fetches in four bytes, then the milliseconds in eight.
-fn twelve_bytes(price: FetchPrice) -> [u8; 12]
-    ensures { result ≡ fetches_first_bytes price }
-{
-    let [f0, f1, f2, f3] = four_bytes(price.fetches);
-    let [m0, m1, m2, m3, m4, m5, m6, m7] = eight_bytes(price.ms);
-    [f0, f1, f2, f3, m0, m1, m2, m3, m4, m5, m6, m7]
-}
-
 // A price model that also gives bytes for a price, alike exactly for equal prices.
 pub trait PrintableModel: PriceModel {
     ghost shown: { Self → Self.Price → List ℕ };
@@ -53,7 +32,7 @@ impl PrintableModel for Clock {
     ghost short = { λ m price. omega (arith, in_bytes_length 8 price) };
 
     fn bytes(&self, price: u64, room: &mut [u8; PRICE_ROOM]) -> usize {
-        room[0..8].copy_from_slice(&eight_bytes(price));
+        room[0..8].copy_from_slice(&price.to_be_bytes());
         8
     }
 }
@@ -71,7 +50,8 @@ impl PrintableModel for FetchesFirst {
     ghost short = { λ m price. omega (arith, length-append (in_bytes 4 price.fetches) (in_bytes 8 price.ms), in_bytes_length 4 price.fetches, in_bytes_length 8 price.ms) };
 
     fn bytes(&self, price: FetchPrice, room: &mut [u8; PRICE_ROOM]) -> usize {
-        room[0..12].copy_from_slice(&twelve_bytes(price));
+        room[0..4].copy_from_slice(&price.fetches.to_be_bytes());
+        room[4..12].copy_from_slice(&price.ms.to_be_bytes());
         12
     }
 }

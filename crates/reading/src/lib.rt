@@ -20,14 +20,14 @@ pub const LONGEST_TEXT: usize = 7;
 // Why a text is no reading.
 #[derive(Clone, Copy, PartialEq, Eq, Debug)]
 pub enum ReadingFault {
-    WrongForm,
+    WrongForm = 20,
 }
 
 // Why a number was not written.
 #[derive(Clone, Copy, PartialEq, Eq, Debug)]
 pub enum WriteRefusal {
-    BeyondRange,
-    BufferTooShort,
+    BeyondRange = 16,
+    BufferTooShort = 17,
 }
 
 impl ReadingFault {
@@ -35,9 +35,7 @@ impl ReadingFault {
     pub fn number(self) -> u8
         ensures { result ≡ fault_number self }
     {
-        match self {
-            ReadingFault::WrongForm => 20,
-        }
+        self as u8
     }
 }
 
@@ -46,10 +44,7 @@ impl WriteRefusal {
     pub fn number(self) -> u8
         ensures { result ≡ refusal_number self }
     {
-        match self {
-            WriteRefusal::BeyondRange => 16,
-            WriteRefusal::BufferTooShort => 17,
-        }
+        self as u8
     }
 }
 

@@ -53,8 +53,8 @@ fn after_minus(text: &[u8]) -> Result<i32, ReadingFault>
     Ok(-magnitude)
 }
 
-// A reading with its sign.
-fn signed(text: &[u8]) -> Result<i32, ReadingFault>
+// The number that the text means, in thousandths.
+pub fn read(text: &[u8]) -> Result<i32, ReadingFault>
     ensures outcome { result ≡ reading text.now }
     ensures meaning { Meant text.now result }
 {
@@ -62,12 +62,4 @@ fn signed(text: &[u8]) -> Result<i32, ReadingFault>
         [b'-', rest @ ..] => after_minus(rest),
         _ => without_minus(text),
     }
-}
-
-// The number that the text means, in thousandths.
-pub fn read(text: &[u8]) -> Result<i32, ReadingFault>
-    ensures outcome { result ≡ reading text.now }
-    ensures meaning { Meant text.now result }
-{
-    signed(text)
 }

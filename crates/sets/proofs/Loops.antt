@@ -55,9 +55,6 @@ pub record Placing (set tested left tests twos threes sum : ℕ) : Type 0 where
   pub tables : twos + threes ≤ 10
   pub room : left < 2 ^ (10 - (twos + threes))
 
-pub placing_none : (set tested : ℕ) → set < 1024 → Placing set tested set tested 0 0 0
-placing_none set tested h = record { value = omega arith; tables = omega arith; room = h }
-
 module _ (set tested left tests twos threes sum : ℕ) (h : Placing set tested left tests twos threes sum) where
   abbrev scale : ℕ
   scale = 2 ^ twos * 3 ^ threes
@@ -119,9 +116,6 @@ module _ (set tested left tests twos threes sum : ℕ) (h : Placing set tested l
   pub placing_end : left ≡ 0 → sum ≡ before tested set
   placing_end e = omega (arith, h.value, ap (λ (x : ℕ). scale * x) (ap (before tests) e ∙ before_none tests), mul-zero scale)
 
-  pub placing_sum : set < 1024 → sum ≤ 1048576
-  placing_sum l = omega (arith, h.value, before_bound 10 tested set (omega arith))
-
   pub placing_add : set < 1024 → left % 2 ≡ 1 → sum + 2 ^ (twos + above) * 3 ^ threes ≤ 1048576
   placing_add l q = ⊎_elim
       (λ p. omega (arith, h.value, before_bound 10 tested set (omega arith), times 0 1 p q, added))
@@ -136,6 +130,3 @@ placing_as a b c d u u' v v' s p q h = subst₂ (λ (x y : ℕ). Placing a b c d
 
 whole : (n i : ℕ) → i ≤ 0 → n / 2 ^ i ≡ n
 whole n i h = let z : i ≡ 0 = omega arith in ap (λ (x : ℕ). n / 2 ^ x) z ∙ div-one n
-
-pub contracting_end : (s m i number : ℕ) → Contracting s m i number → i ≤ 0 → number ≡ contracted s m
-contracting_end s m i number h z = h.0 ∙ ap₂ contracted (whole s i z) (whole m i z)

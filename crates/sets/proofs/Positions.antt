@@ -151,7 +151,3 @@ pub place_end : (k t r s : ℕ) → t < 2 ^ k → r + 1 ≡ 2 ^ k → s ≡ test
 place_end k t r s h e f =
     let up : suc r ≡ 2 ^ k = omega arith in
     ap (λ (x : ℕ). place_of t r x + 1) f ∙ place_last t r ∙ ap (before t) up ∙ before_all k t h
-
--- cells enough for the rows of n tables hold each of them
-pub place_held : (n t r s cells : ℕ) → t < 2 ^ n → row_count n t ≤ cells → r < 2 ^ n → place_of t r s < cells
-place_held n t r s cells h l lt = omega (arith, place_lt n t r s h lt)

@@ -1,9 +1,9 @@
 // A table with a cell for each row, over cells that are lent.
-ghost use Rattle.std.specs.Prelude.{◌≡◌, ◌≤◌, false, length, set as updated, if◌then◌else◌, Decides, nat_lt};
+ghost use Rattle.std.specs.Prelude.{◌≡◌, ◌≤◌, false, length, replicate, set as updated, if◌then◌else◌, Decides, nat_lt};
 ghost use Rattle.sets.specs.Rows.{place_of, row_count, filled, Room};
 ghost use Rattle.std.specs.List.{slice_get};
 
-use crate::{Row, SmallSet, next_row, position, row_count};
+use crate::{Row, SmallSet, position, row_count};
 
 // The cells of the rows, each at its row's place; `tested` are the tables that have a test.
 #[derive(Drop)]
@@ -34,13 +34,7 @@ impl<'a, T: Copy> Ragged<'a, T> {
     pub fn get(&self, row: Row) -> Option<T>
         ensures { result ≡ slice_get self.now.cells.now (place_of self.now.tested.bits row.tables.bits row.tests.bits) }
     {
-        let place = position(row, self.tested);
-        let cells: &[T] = self.cells;
-        if place < cells.len() {
-            Some(cells[place])
-        } else {
-            None
-        }
+        self.cells.get(position(row, self.tested)).copied()
     }
 
     // Writes the cell of the row, if there is such a cell, and says whether there is.
@@ -71,23 +65,15 @@ pub fn fill<T: Copy>(cells: &mut [T], count: u8, tested: SmallSet, value: T) -> 
     if cells.len() < rows as usize {
         return false;
     }
-    fill_rows(cells, rows, tested, value);
+    fill_all(&mut cells[..rows as usize], value);
     true
 }
 
-// Writes `value` into the cells of the first `rows` rows.
-fn fill_rows<T: Copy>(cells: &mut [T], rows: u32, tested: SmallSet, value: T)
-    requires held { rows ≤ length cells.old }
-    requires known { rows ≤ row_count 10 tested.bits }
-    ensures { cells.new ≡ filled rows value cells.old }
+// Writes `value` into every cell.
+fn fill_all<T: Copy>(cells: &mut [T], value: T)
+    ensures { cells.new ≡ replicate (length cells.old) value }
 {
-    let mut table = Ragged::over(cells, tested);
-    let mut row = Row::first();
-    for place in 0..rows {
-        table.put(row, value);
-        let Some(next) = next_row(row, tested) else {
-            return;
-        };
-        row = next;
+    for cell in cells.iter_mut() {
+        *cell = value;
     }
 }

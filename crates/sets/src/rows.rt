@@ -1,5 +1,6 @@
 // The rows: one for each set of tables and each set of tests on them, and their order.
-ghost use Rattle.std.specs.Prelude.{◌≡◌, ◌+◌, ◌*◌, ◌^◌, ◌<◌, ◌≤◌, MatchOption};
+ghost use Rattle.std.specs.Prelude.{◌≡◌, ◌+◌, ◌-◌, ◌*◌, ◌^◌, ◌<◌, ◌≤◌, true, false, MatchOption, bit_and};
+ghost use Rattle.sets.specs.Sets.{has};
 ghost use Rattle.sets.specs.Order.{RowsInOrder};
 ghost use Rattle.sets.specs.Rows.{contracted, before, place_of, row_count, tests_on, NextRow};
 ghost use Rattle.std.specs.Option.{SomeIff};
@@ -23,6 +24,29 @@ impl Row {
         Row {
             tables: SmallSet::empty(),
             tests: SmallSet::empty(),
+        }
+    }
+
+    // The tables, with those of the row's tests that are on them.
+    pub fn on(self, tables: SmallSet) -> Row
+        ensures tables { result.tables.bits ≡ tables.bits }
+        ensures tests { result.tests.bits ≡ bit_and self.tests.bits tables.bits }
+    {
+        Row {
+            tables,
+            tests: self.tests.intersection(tables),
+        }
+    }
+
+    // The same tables, without one of the tests.
+    pub fn without_test(self, test: u8) -> Row
+        ensures tables { result.tables.bits ≡ self.tables.bits }
+        ensures inside { has self.tests.bits test ≡ true → result.tests.bits ≡ self.tests.bits - 2 ^ test }
+        ensures outside { has self.tests.bits test ≡ false → result.tests.bits ≡ self.tests.bits }
+    {
+        Row {
+            tables: self.tables,
+            tests: self.tests.without_member(test),
         }
     }
 }

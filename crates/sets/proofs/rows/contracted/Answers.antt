@@ -1,5 +1,5 @@
 use Rattle.std.proofs.Common.{arith}
-use Rattle.sets.proofs.Loops.{contracting_none, contracting_out, contracting_in, contracting_end, bit_on, bit_off}
+use Rattle.sets.proofs.Loops.{contracting_none, contracting_out, contracting_in, bit_on, bit_off}
 use Rattle.sets.proofs.rows.contracted.Goals as goal
 
 pub loop-test-init : goal.loop-test-init
@@ -13,6 +13,3 @@ loop-test-preserved-then-contains-2 c = contracting_in _ _ _ _ c.args.of.few c.l
 
 pub loop-test-preserved-else-contains-2 : goal.loop-test-preserved-else-contains-2
 loop-test-preserved-else-contains-2 c = contracting_in _ _ _ _ c.args.of.few c.loop-test.invariant c.loop-test-test.true _ c.if-contains.ensures (omega (arith, bit_off _ _ c.if-contains-2.ensures))
-
-pub returns : goal.returns
-returns c = contracting_end _ _ _ _ c.loop-test.invariant c.loop-test-test.false

@@ -1,14 +1,9 @@
-use Rattle.std.proofs.Common.{◌≡◌, ℕ, ◌-◌, ◌*◌, ◌^◌, ◌<◌, Some, None, Option, sym, ap, ◌∙◌, arith, pow_pos}
+use Rattle.std.proofs.Common.{◌^◌, ◌<◌, sym, ap, ◌∙◌, arith, pow_pos}
 use lib.Bits.{bit_and, and_le_r}
-use Rattle.std.specs.Option.{SomeIff}
 use Rattle.std.proofs.lemmas.Bool.{eqb-true, eqb-false}
 use Rattle.std.proofs.lemmas.Nat.{ones-le}
 use Rattle.sets.proofs.Bits.{below_part}
 use Rattle.sets.proofs.rows.row_count.Goals as goal
-
-checked_like : (o : Option ℕ) (P Q : Type 0) (v w : ℕ) → (P → Q) → (Q → P) → v ≡ w → SomeIff o P v → SomeIff o Q w
-checked_like None P Q v w f g e h = λ q. h (g q)
-checked_like (Some x) P Q v w f g e h = (f h.0, h.1 ∙ e)
 
 pub returns-then-not-is_subset : goal.returns-then-not-is_subset
 returns-then-not-is_subset c = λ h.
@@ -25,13 +20,3 @@ overflow_sub-count c =
     let part = eqb-true (bit_and t all) t (sym c.if-not-is_subset.ensures) in
     let below : t < 2 ^ n = omega (arith, and_le_r t all, c.in_ok-tables.ensures.1, pow_pos n) in
     omega (arith, ones-le n t below, c.len-tests.ensures.value)
-
-pub returns : goal.returns
-returns c =
-    let n = c.args.count in
-    let t = c.args.tested.bits in
-    let all = c.in_ok-tables.tables.bits in
-    let part = eqb-true (bit_and t all) t (sym c.if-not-is_subset.ensures) in
-    let below : t < 2 ^ n = omega (arith, and_le_r t all, c.in_ok-tables.ensures.1, pow_pos n) in
-    checked_like _ _ _ _ _ (λ h. (c.in_ok-tables.ensures.0, below)) (λ h. (omega arith, c.len-tests.ensures.few))
-    (ap (λ (x : ℕ). 2 ^ (n - x) * 3 ^ x) c.len-tests.ensures.value) c.product.ensures

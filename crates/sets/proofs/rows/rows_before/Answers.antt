@@ -1,17 +1,8 @@
 use Rattle.std.proofs.Common.{◌∙◌, ap₂, arith}
 use Rattle.sets.specs.Rows.{before}
-use Rattle.sets.proofs.Loops.{placing_none, placing_above, placing_untested, placing_tested, placing_end, placing_add, placing_as}
+use Rattle.sets.proofs.Loops.{placing_above, placing_untested, placing_tested, placing_end, placing_add, placing_as}
 use Rattle.sets.proofs.rows.rows_before.Goals as goal
 use Rattle.sets.proofs.rows.rows_before.Goals.{then-tests-eq1, else-tests-eq1, then-left-eq1, else-left-eq1}
-
-pub loop-left-init : goal.loop-left-init
-loop-left-init c = placing_none _ _ (omega (arith, c.bits-left.ensures, c.args.tables.few))
-
-pub overflow_cast-above : goal.overflow_cast-above
-overflow_cast-above c = omega (arith, placing_above _ _ _ _ _ _ _ c.loop-left.invariant c.loop-left-test.true)
-
-pub overflow_add-twos : goal.overflow_add-twos
-overflow_add-twos c = omega (arith, placing_above _ _ _ _ _ _ _ c.loop-left.invariant c.loop-left-test.true)
 
 pub power-sum-requires : goal.power-sum-requires
 power-sum-requires c = (placing_above _ _ _ _ _ _ _ c.loop-left.invariant c.loop-left-test.true, omega (arith, c.loop-left.invariant.tables))

@@ -4,8 +4,8 @@ use Rattle.std.proofs.lemmas.Bool.{ne_eqb, ltb-true}
 use Rattle.reading.specs.declared.ReadingFault.{ReadingFault}
 use Rattle.reading.specs.Outcomes.{unsigned_reading, plain, negative, reading}
 use Rattle.reading.proofs.Laws.{meant}
-use Rattle.reading.proofs.reader.signed.Goals as goal
-use Rattle.reading.proofs.reader.signed.Goals.{in_default-via-then-text-lt1, in_default-via-else-text-lt1+in_default-1}
+use Rattle.reading.proofs.reader.read.Goals as goal
+use Rattle.reading.proofs.reader.read.Goals.{in_default-via-then-text-lt1, in_default-via-else-text-lt1+in_default-1}
 
 after_minus : (t : List ℕ) (r : Result ℤ ReadingFault) → get_or t 0 0 ≡ 45 → r ≡ negative (unsigned_reading (take (length t - 1) (drop 1 t))) → r ≡ reading t
 after_minus t r h e = rw h (e ∙ ap (λ u. negative (unsigned_reading u)) (take_rest t 1))
