@@ -6,3 +6,4 @@ pub mod Entries
 pub mod Spelling
 pub mod Statement
 pub mod Samples
+pub mod Steps

@@ -10,9 +10,11 @@ use pricing::PriceModel;
 
 mod entries;
 mod predicates;
+mod steps;
 
 pub use entries::Entry;
 pub use predicates::{Test, Tie};
+pub use steps::{NoStep, Step};
 
 // Under the model the recurrence gives every question a cheapest valid plan wherever there is a valid one.
 pub fn recurrence_is_cheapest<M: PriceModel>(model: &M)

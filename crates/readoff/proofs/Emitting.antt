@@ -1,5 +1,5 @@
 -- What is written for a row, from what is written for the rows of its parts.
-use Rattle.std.proofs.Common.{◌≡◌, ℕ, ◌+◌, ◌-◌, ◌^◌, ◌<◌, ◌≤◌, List, [], ◌∷◌, ◌++◌, length, drop, Some, None, Option, sym, ap, ◌∙◌, arith, length-append, pow_pos, MatchOption}
+use Rattle.std.proofs.Common.{◌≡◌, ℕ, ◌+◌, ◌-◌, ◌^◌, ◌<◌, ◌≤◌, List, [], ◌∷◌, ◌++◌, length, drop, Some, None, Option, sym, ap, ◌∙◌, arith, length-append, pow_pos}
 use lib.Bits.{bit_and, and_le_l}
 use Rattle.plans.specs.Plans.{Plan, bare, test, join}
 use Rattle.plans.specs.Spelling.{spelled}
@@ -7,9 +7,10 @@ use Rattle.sets.specs.declared.rows.Row.{Row}
 use Rattle.sets.proofs.Parts.{one_le}
 use Rattle.readoff.specs.Leads.{Bare, Tested, Leads}
 use Rattle.readoff.specs.Choices.{Is, Sides}
-use Rattle.readoff.specs.Written.{Put, Emitted, Front, ReadOff}
+use Rattle.buffers.specs.Put.{PutOrNot}
+use Rattle.readoff.specs.Written.{Emitted, Front, ReadOff}
 use Rattle.readoff.proofs.Leading.{test_only, join_only, same_plan}
-use Rattle.readoff.proofs.Putting.{put_length, put_more}
+use Rattle.buffers.proofs.Putting.{put_length, put_more}
 
 pub length_test : (i : ℕ) (p : Plan) → length (spelled (test i p)) ≡ length (spelled p) + 2
 unfolding spelled
@@ -28,7 +29,7 @@ two_bytes (join l r) = omega (arith, length_join l r)
 
 -- One operation is put after what stands, or there is no room for it.
 abbrev pub PutOne : (before after : List ℕ) (at operation index : ℕ) → Option ℕ → Type 0
-PutOne before after at operation index answer = MatchOption answer (length before < at + 2) (λ end. Put before after at end (operation ∷ index ∷ []))
+PutOne before after at operation index answer = PutOrNot before after at (operation ∷ index ∷ []) answer
 
 -- No plan has room: each that the row leads to needs more than there is.
 abbrev pub HasNoRoom : (choice : ℕ → ℕ → ℕ) (R S room at : ℕ) → Type 0
@@ -63,7 +64,7 @@ module _ (choice : ℕ → ℕ → ℕ) (R S : ℕ) (before after : List ℕ) (a
   pub table_emitted : (i : ℕ) (answer : Option ℕ) → Bare (choice R S) R S i → PutOne before after at 0x10 i answer
       → Emitted choice R S before after at answer
   unfolding Leads spelled
-  table_emitted i None b put = λ p a. omega (arith, two_bytes p)
+  table_emitted i None b put = λ p a. omega (arith, put.short, two_bytes p)
   table_emitted i (Some end) b put = (bare i, b, put)
 
   module _ (few : S < 1024) where
@@ -83,7 +84,7 @@ module _ (choice : ℕ → ℕ → ℕ) (R S : ℕ) (before after : List ℕ) (a
       unfolding Leads spelled
       test_emitted between middle None d put =
           room_for_none (test i d.0) (t, of_row choice input R (S - 2 ^ i) d.0 is d.1)
-          (omega (arith, put_length _ _ _ _ _ d.2, d.2.ends, length_test i d.0))
+          (omega (arith, put.short, put_length _ _ _ _ _ d.2, d.2.ends, length_test i d.0))
       test_emitted between middle (Some end) d put = (
         test i d.0,
         (t, of_row choice input R (S - 2 ^ i) d.0 is d.1),
@@ -124,7 +125,7 @@ module _ (choice : ℕ → ℕ → ℕ) (R S : ℕ) (before after : List ℕ) (a
       unfolding spelled
       join_emitted one two m n None d e put =
           room_for_none (join d.0 e.0) (both_led d.0 e.0 d.1 e.1)
-          (omega (arith, put_length _ _ _ _ _ d.2, put_length _ _ _ _ _ e.2, d.2.ends, e.2.ends, length_join d.0 e.0))
+          (omega (arith, put.short, put_length _ _ _ _ _ d.2, put_length _ _ _ _ _ e.2, d.2.ends, e.2.ends, length_join d.0 e.0))
       join_emitted one two m n (Some end) d e put = (
         join d.0 e.0,
         both_led d.0 e.0 d.1 e.1,

@@ -1,14 +1,9 @@
 -- What reading off leaves in the buffer.
-use Rattle.std.specs.Prelude.{◌≡◌, ℕ, ◌+◌, ◌<◌, ◌≤◌, List, ◌++◌, length, take, drop, Some, Option, MatchOption}
+use Rattle.std.specs.Prelude.{◌≡◌, ℕ, ◌+◌, ◌<◌, ◌≤◌, List, ◌++◌, length, drop, Some, Option, MatchOption}
+use Rattle.buffers.specs.Put.{Put}
 use Rattle.plans.specs.Plans.{Plan}
 use Rattle.plans.specs.Spelling.{spelled}
 use Rattle.readoff.specs.Leads.{Leads}
-
--- The bytes stand from `at` to `end`, and the rest is as it was.
-pub record Put (before after : List ℕ) (at end : ℕ) (bytes : List ℕ) : Type 0 where
-  pub ends : end ≡ at + length bytes
-  pub room : end ≤ length before
-  pub holds : after ≡ (take at before ++ bytes) ++ drop end before
 
 -- From `at` on stands a plan that the choices lead to; there is no answer if there is no such plan with room for its bytes.
 abbrev pub Emitted : (choice : ℕ → ℕ → ℕ) (R S : ℕ) (before after : List ℕ) (at : ℕ) → Option ℕ → Type 0

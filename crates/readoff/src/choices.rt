@@ -13,7 +13,7 @@ const FIRST_TEST: u16 = 256;
 const FIRST_JOIN: u16 = 4096;
 
 // What stands on top of a plan, and the rows of what is below it.
-#[derive(Clone, Copy)]
+#[derive(Clone, Copy, PartialEq, Eq, Debug)]
 pub enum Choice {
     Table(u8),
     Test { test: u8, input: Row },
@@ -24,12 +24,7 @@ pub enum Choice {
 pub fn choice_at(choices: &[u16], tested: SmallSet, row: Row) -> Option<Choice>
     ensures { Says (choice_in choices.now tested.bits row.tables.bits row.tests.bits) row.tables.bits row.tests.bits result }
 {
-    let place = position(row, tested);
-    if place < choices.len() {
-        choice_of(choices[place], row)
-    } else {
-        None
-    }
+    choice_of(*choices.get(position(row, tested))?, row)
 }
 
 // What the code means for the row, if it is the code of a choice that the row could have.
@@ -74,11 +69,10 @@ fn test_of(code: u16, row: Row) -> Option<Choice>
     if !row.tests.contains(test) {
         return None;
     }
-    let input = Row {
-        tables: row.tables,
-        tests: row.tests.without_member(test),
-    };
-    Some(Choice::Test { test, input })
+    Some(Choice::Test {
+        test,
+        input: row.without_test(test),
+    })
 }
 
 // A join: the tables of the left side are some of the row's, but not all.
@@ -95,17 +89,7 @@ fn join_of(code: u16, row: Row) -> Option<Choice>
         return None;
     }
     Some(Choice::Join {
-        left: part_of(row, tables),
-        right: part_of(row, others),
+        left: row.on(tables),
+        right: row.on(others),
     })
-}
-
-// The tables with the row's tests on them.
-fn part_of(row: Row, tables: SmallSet) -> Row
-    ensures { Is result tables.bits (bit_and row.tests.bits tables.bits) }
-{
-    Row {
-        tables,
-        tests: row.tests.intersection(tables),
-    }
 }

@@ -14,7 +14,7 @@ mod choices;
 mod reading;
 
 pub use choices::{Choice, choice_at};
-use reading::read_row;
+use reading::emit;
 use sets::{Row, SmallSet};
 
 // Writes the plan of the row at the front of the buffer, and answers the number of its bytes; None if the choices lead to no plan,
@@ -22,7 +22,7 @@ use sets::{Row, SmallSet};
 pub fn read_off(choices: &[u16], tested: SmallSet, row: Row, buffer: &mut [u8]) -> Option<usize>
     ensures { ReadOff (choice_in choices.now tested.bits) row.tables.bits row.tests.bits buffer.old buffer.new result }
 {
-    read_row(choices, tested, row, buffer)
+    emit(choices, tested, row, buffer, 0)
 }
 
 // The choices of the recurrence lead to its plans, under any model with prices of the type P.

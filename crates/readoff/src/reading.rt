@@ -1,59 +1,45 @@
 // A plan is read off from its row downwards, and written in postorder.
-ghost use Rattle.std.specs.Prelude.{◌+◌, ◌<◌, ◌≤◌, [], ◌∷◌, length, MatchOption};
+ghost use Rattle.std.specs.Prelude.{◌≤◌, length};
+ghost use Rattle.buffers.specs.Put.{PutOrNot};
+ghost use Rattle.plans.specs.Steps.{step_bytes};
 ghost use Rattle.readoff.specs.Leads.{choice_in};
-ghost use Rattle.readoff.specs.Written.{Put, Emitted, ReadOff};
+ghost use Rattle.readoff.specs.Written.{Emitted};
 
 use crate::choices::{Choice, choice_at};
+use buffers::put_pair;
+use plans::Step;
 use sets::{Row, SmallSet};
 
-// The first byte of each operation's two.
-const TABLE: u8 = 0x10;
-
-const TEST: u8 = 0x11;
-
-const JOIN: u8 = 0x12;
-
-// Writes the plan of the row from the front of the buffer on, and answers where it ends.
-pub(crate) fn read_row(
+// Writes the plan of the row from `at` on, and answers where it ends.
+pub(crate) fn emit(
     choices: &[u16],
     tested: SmallSet,
     row: Row,
     buffer: &mut [u8],
+    at: usize,
 ) -> Option<usize>
-    ensures { ReadOff (choice_in choices.now tested.bits) row.tables.bits row.tests.bits buffer.old buffer.new result }
-{
-    emit(choices, tested, row, buffer, 0)
-}
-
-// The same from `at` on.
-fn emit(choices: &[u16], tested: SmallSet, row: Row, buffer: &mut [u8], at: usize) -> Option<usize>
     requires { at ≤ length buffer.old }
     ensures { Emitted (choice_in choices.now tested.bits) row.tables.bits row.tests.bits buffer.old buffer.new at result }
 {
     let choice = choice_at(choices, tested, row)?;
     match choice {
-        Choice::Table(table) => put(buffer, at, TABLE, table),
+        Choice::Table(table) => put(buffer, at, Step::Table(table)),
         Choice::Test { test, input } => {
             let end = emit(choices, tested, input, buffer, at)?;
-            put(buffer, end, TEST, test)
+            put(buffer, end, Step::Test(test))
         }
         Choice::Join { left, right } => {
             let middle = emit(choices, tested, left, buffer, at)?;
             let end = emit(choices, tested, right, buffer, middle)?;
-            put(buffer, end, JOIN, 0)
+            put(buffer, end, Step::Join)
         }
     }
 }
 
 // Writes one operation at `at`, and answers where it ends; None if there is no room for it.
-fn put(buffer: &mut [u8], at: usize, operation: u8, index: u8) -> Option<usize>
-    requires { at ≤ length buffer.old }
-    ensures { MatchOption result (length buffer.old < at + 2) (λ end. Put buffer.old buffer.new at end (operation ∷ index ∷ [])) }
+fn put(buffer: &mut [u8], at: usize, step: Step) -> Option<usize>
+    ensures { PutOrNot buffer.old buffer.new at (step_bytes step) result }
 {
-    if buffer.len() - at < 2 {
-        return None;
-    }
-    buffer[at] = operation;
-    buffer[at + 1] = index;
-    Some(at + 2)
+    let [first, second]: [u8; 2] = step.into();
+    put_pair(buffer, at, first, second)
 }

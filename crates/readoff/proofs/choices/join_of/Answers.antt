@@ -40,6 +40,6 @@ returns c =
     record {
       L = L;
       joined = record { chosen = omega (arith, c.in_ok-tables.ensures); part = part; some = omega arith; proper = omega arith };
-      left_is = c.part_of.ensures;
-      right_is = subst (λ (n : ℕ). Is c.part_of-2.result n (bit_and S n)) others c.part_of-2.ensures;
+      left_is = (c.on.ensures.tables, c.on.ensures.tests);
+      right_is = subst (λ (n : ℕ). Is c.on-2.result n (bit_and S n)) others (c.on-2.ensures.tables, c.on-2.ensures.tests);
     }

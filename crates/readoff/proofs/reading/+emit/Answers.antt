@@ -2,7 +2,7 @@ use Rattle.std.proofs.Common.{subst, arith}
 use Rattle.readoff.specs.Leads.{choice_in}
 use Rattle.readoff.specs.Choices.{Means}
 use Rattle.readoff.proofs.Leading.{nothing_led}
-use Rattle.readoff.proofs.Putting.{put_length}
+use Rattle.buffers.proofs.Putting.{put_length}
 use Rattle.readoff.proofs.Emitting.{input_smaller, left_smaller, right_smaller, table_emitted, input_none, test_emitted, left_none, right_none, join_emitted}
 use Rattle.readoff.proofs.reading.+emit.Goals as goal
 

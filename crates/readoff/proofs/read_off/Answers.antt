@@ -1,6 +1,6 @@
 use Rattle.readoff.specs.Leads.{choice_in}
 use Rattle.readoff.proofs.Emitting.{from_front}
-use Rattle.readoff.proofs.reading.read_row.Goals as goal
+use Rattle.readoff.proofs.read_off.Goals as goal
 
 pub returns : goal.returns
 returns c =
