@@ -127,7 +127,7 @@ impl Catalogue {
         if q == 0 || p > q {
             return Err(ChangeRefusal::BadSelectivity);
         }
-        let Some(kind) = Kind::from_number(kind) else {
+        let Ok(kind) = Kind::try_from(kind) else {
             return Err(ChangeRefusal::NoSuchKind);
         };
         if self.test_of(table).is_some() {

@@ -8,3 +8,4 @@ pub mod Whole
 pub mod Singles
 pub mod Last
 pub mod Storing
+pub mod Reading

@@ -4,16 +4,17 @@ ghost use Rattle.catalogue.specs.Asked.{asked};
 ghost use Rattle.checker.specs.Checks.{named, named_pairs};
 
 use catalogue::Catalogue;
+use plans::{NoStep, Step};
 
 // Whether the pair names a given table, the test of a given table or a join.
 fn is_named(catalogue: &Catalogue, first: u8, second: u8) -> bool
     ensures { result ≡ named (asked catalogue.now) first second }
 {
-    match first {
-        0x10 => second < catalogue.count(),
-        0x11 => second < catalogue.count() && catalogue.test_of(second).is_some(),
-        0x12 => second == 0,
-        _ => false,
+    match Step::try_from([first, second]) {
+        Ok(Step::Table(table)) => table < catalogue.count(),
+        Ok(Step::Test(table)) => table < catalogue.count() && catalogue.test_of(table).is_some(),
+        Ok(Step::Join) => true,
+        Err(NoStep) => false,
     }
 }
 

@@ -4,9 +4,9 @@ ghost use Rattle.checker.specs.Refusals.{check_number};
 
 #[derive(Clone, Copy, PartialEq, Eq, Debug)]
 pub enum CheckRefusal {
-    ListTooShort,
-    BadPair,
-    NoValidPlan,
+    ListTooShort = 12,
+    BadPair = 18,
+    NoValidPlan = 19,
 }
 
 impl CheckRefusal {
@@ -14,10 +14,6 @@ impl CheckRefusal {
     pub fn number(self) -> u8
         ensures { result ≡ check_number self }
     {
-        match self {
-            CheckRefusal::ListTooShort => 12,
-            CheckRefusal::BadPair => 18,
-            CheckRefusal::NoValidPlan => 19,
-        }
+        self as u8
     }
 }

@@ -8,6 +8,7 @@ ghost use Rattle.plans.specs.Questions.{Question};
 use crate::operations::Operation;
 use crate::parts::Parts;
 use catalogue::Catalogue;
+use plans::{NoStep, Step};
 use sets::{Row, SmallSet};
 
 // The tables and the tests of two parts that share none.
@@ -98,11 +99,11 @@ impl Parts {
     pub(crate) fn take(&mut self, catalogue: &Catalogue, first: u8, second: u8) -> Option<Operation>
         ensures { Leads (asked catalogue.now) self.old (step (asked catalogue.now) first second) result self.new }
     {
-        match first {
-            0x10 => self.add_table(catalogue, second),
-            0x11 => self.add_test(catalogue, second),
-            0x12 if second == 0 => self.add_join(catalogue),
-            _ => None,
+        match Step::try_from([first, second]) {
+            Ok(Step::Table(table)) => self.add_table(catalogue, table),
+            Ok(Step::Test(table)) => self.add_test(catalogue, table),
+            Ok(Step::Join) => self.add_join(catalogue),
+            Err(NoStep) => None,
         }
     }
 }

@@ -29,7 +29,7 @@ fn is_whole(catalogue: &Catalogue, parts: &Parts) -> bool
         return false;
     }
     let row = parts.rows[0];
-    row.tables.bits() == catalogue.tables().bits() && row.tests.bits() == catalogue.tests().bits()
+    row.tables == catalogue.tables() && row.tests == catalogue.tests()
 }
 
 // Whether the bytes spell a valid plan of the question.

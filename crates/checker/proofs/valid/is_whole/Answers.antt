@@ -1,17 +1,19 @@
 use Rattle.std.proofs.Common.{sym, ◌∙◌, arith}
-use Rattle.std.proofs.lemmas.Bool.{eqb-true, eq-eqb}
+use Rattle.std.proofs.lemmas.Bool.{eqb-true, eq-eqb, true≢false}
 use Rattle.catalogue.specs.Asked.{asked}
 use Rattle.checker.proofs.Whole.{whole}
 use Rattle.checker.proofs.valid.is_whole.Goals as goal
 
-pub returns-then-bits : goal.returns-then-bits
-returns-then-bits c = λ all h.
+pub returns-then-eq : goal.returns-then-eq
+returns-then-eq c = λ all h.
     whole (asked c.args.catalogue.now) c.args.parts.now c.index-parts-0.result _ all h (omega arith) (
-      λ e. (sym c.bits.ensures ∙ c.if-bits.true ∙ c.bits-2.ensures ∙ c.tables.ensures, sym c.bits-then-bits.ensures ∙ eqb-true c.bits-then-bits.result c.bits-then-bits-2.result e ∙ c.bits-then-bits-2.ensures ∙ c.tests.ensures),
-      λ k. eq-eqb c.bits-then-bits.result c.bits-then-bits-2.result (c.bits-then-bits.ensures ∙ k.1 ∙ sym (c.bits-then-bits-2.ensures ∙ c.tests.ensures)),
+      λ e. (eqb-true _ _ (sym c.eq.ensures ∙ c.if-eq.true) ∙ c.tables.ensures, eqb-true _ _ (sym c.eq-then-eq.ensures ∙ e) ∙ c.tests.ensures),
+      λ k. c.eq-then-eq.ensures ∙ eq-eqb _ _ (k.1 ∙ sym c.tests.ensures),
     )
 
-pub returns-else-bits : goal.returns-else-bits
-returns-else-bits c = λ all h.
-    whole (asked c.args.catalogue.now) c.args.parts.now c.index-parts-0.result _ all h (omega arith)
-    (λ e. absurd (c.if-bits.false (eqb-true _ _ e)), λ k. eq-eqb _ _ (c.bits.ensures ∙ k.0 ∙ sym (c.bits-2.ensures ∙ c.tables.ensures)))
+pub returns-else-eq : goal.returns-else-eq
+returns-else-eq c = λ all h.
+    whole (asked c.args.catalogue.now) c.args.parts.now c.index-parts-0.result _ all h (omega arith) (
+      λ e. absurd (true≢false (sym e ∙ c.if-eq.false)),
+      λ k. c.eq.ensures ∙ eq-eqb _ _ (k.0 ∙ sym c.tables.ensures),
+    )

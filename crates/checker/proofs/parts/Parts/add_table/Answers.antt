@@ -15,17 +15,11 @@ more c = deeper c.args.self.now.seen.bits c.in_ok-seen.seen.bits c.args.table c.
 room : (c : goal.After-empty) → c.args.self.now.depth < 10
 room c = omega (arith, at_most_ten c.in_ok-seen.seen.bits (c.args.self.now.depth + 1) c.in_ok-seen.seen.few (more c))
 
-pub offset_bounds-self-self : goal.offset_bounds-self-self
-offset_bounds-self-self c = omega (arith, room c)
-
 pub listed : goal.listed
 listed c = omega (arith, room (goal.at.listed c).After-empty, c.args.self.now.ten)
 
 pub bounds-self-self : goal.bounds-self-self
 bounds-self-self c = room (goal.at.bounds-self-self c).After-empty
-
-pub overflow_add-self : goal.overflow_add-self
-overflow_add-self c = omega (arith, room (goal.at.overflow_add-self c).After-empty)
 
 pub invariant_of-self : goal.invariant_of-self
 invariant_of-self c =
