@@ -4,8 +4,9 @@ use Rattle.std.proofs.lemmas.List.{take_all, length-take-le}
 use Rattle.std.proofs.lemmas.Bool.{ne_eqb, lt-leb, and_right, cases_lt}
 use Rattle.frames.specs.declared.faults.FrameFault.TheVariants.{BadFrame}
 use Rattle.frames.specs.declared.faults.LineFault.{LineFault}
-use Rattle.frames.specs.declared.decoded.Decoded.{Decoded}
-use Rattle.frames.specs.Decoding.{decoded_bytes, first_ten, or_not_pairs, decoded_line, framed, line_frame, kept_line, framed_line}
+use Rattle.buffers.specs.Written.{written}
+use Rattle.buffers.specs.declared.room.Bytes.{Bytes}
+use Rattle.frames.specs.Decoding.{first_ten, or_not_pairs, decoded_line, framed, line_frame, kept_line, framed_line}
 use Rattle.frames.specs.Frames.{frame_of}
 use Rattle.frames.specs.Laws.{TenDecide}
 use Rattle.frames.specs.Lines.{PlainLine, frame_bytes}
@@ -27,13 +28,13 @@ ten_decide bytes =
     (cases_lt (length bytes) 10)
 
 -- so what decoding a line answers decides its frame
-same_frame : (r : Result Decoded LineFault) (o : Option (List ℕ)) → kept_line r ≡ or_not_pairs (first_ten o) → framed_line r ≡ framed o
+same_frame : (r : Result (Bytes 10) LineFault) (o : Option (List ℕ)) → kept_line r ≡ or_not_pairs (first_ten o) → framed_line r ≡ framed o
 same_frame (Ok d) (Some bytes) e =
-    let same : decoded_bytes d ≡ take 10 bytes = cc in
+    let same : written d ≡ take 10 bytes = cc in
     ap Some (ap frame_of same ∙ ten_decide bytes)
 same_frame (Ok d) None e = let z : ◌≡◌ {A = ℕ} 0 1 = cc in absurd (omega arith)
 same_frame (Err fault) (Some bytes) e = let z : ◌≡◌ {A = ℕ} 0 1 = cc in absurd (omega arith)
 same_frame (Err fault) None e = refl
 
-pub same_line_frame : (r : Result Decoded LineFault) (l : PlainLine) → kept_line r ≡ decoded_line l → framed_line r ≡ line_frame l
+pub same_line_frame : (r : Result (Bytes 10) LineFault) (l : PlainLine) → kept_line r ≡ decoded_line l → framed_line r ≡ line_frame l
 same_line_frame r l e = same_frame r (frame_bytes l) e

@@ -1,7 +1,7 @@
 -- Pair by pair, the first ten bytes are kept.
-use Rattle.std.proofs.Common.{◌≡◌, ℕ, zero, suc, ◌-◌, ◌≤◌, List, [], ◌∷◌, ◌++◌, length, get_or, take, drop, Some, None, Option, sym, refl, ap, ◌∙◌, arith}
-use Rattle.std.proofs.lemmas.List.{append_assoc, append-nil, take_all, take_rest}
-use Rattle.frames.specs.Decoding.{first_ten}
+use Rattle.std.proofs.Common.{◌≡◌, ℕ, zero, suc, ◌-◌, ◌<◌, ◌≤◌, Bool, true, false, cond, nat_lt, List, [], ◌∷◌, ◌++◌, length, get_or, take, drop, Some, None, Option, sym, refl, ap, ◌∙◌, arith}
+use Rattle.std.proofs.lemmas.Bool.{ltb-true, ltb-false}
+use Rattle.std.proofs.lemmas.List.{append_assoc, append-nil, length_push, take_all, take_at, take_rest}
 use Rattle.frames.specs.Lines.{byte_value, byte_before, pairs}
 
 -- the first ten bytes, after some that were kept before
@@ -9,9 +9,15 @@ abbrev pub ten_after : List ℕ → Option (List ℕ) → Option (List ℕ)
 ten_after kept (Some bytes) = Some (take 10 (kept ++ bytes))
 ten_after kept None = None
 
-pub ten_after_none : (o : Option (List ℕ)) → ten_after [] o ≡ first_ten o
-ten_after_none (Some bytes) = refl
-ten_after_none None = refl
+-- a byte is kept if it is among the first ten
+pub kept_ten : (kept more : List ℕ) (b : ℕ) (there : Bool) → length kept ≤ 10 → there ≡ nat_lt (length kept) 10
+    → more ≡ cond there (kept ++ b ∷ []) kept → more ≡ take 10 (kept ++ b ∷ [])
+kept_ten kept more b true few t e =
+    let room : length kept < 10 = ltb-true _ _ (sym t) in
+    e ∙ sym (take_all 10 (kept ++ b ∷ []) (omega (arith, length_push kept b)))
+kept_ten kept more b false few t e =
+    let full : length kept ≡ 10 = omega (arith, ltb-false _ _ (sym t)) in
+    e ∙ sym (take_at kept (b ∷ []) 10 full)
 
 pub ten_after_all : (kept : List ℕ) → length kept ≤ 10 → ten_after kept (Some []) ≡ Some kept
 ten_after_all kept h = ap Some (ap (take 10) (append-nil kept) ∙ take_all 10 kept h)

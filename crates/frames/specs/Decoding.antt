@@ -2,13 +2,11 @@
 use Rattle.std.specs.Prelude.{ℕ, List, take, Some, None, Ok, Err, Option, Result}
 use Rattle.frames.specs.declared.faults.LineFault.{LineFault}
 use Rattle.frames.specs.declared.faults.LineFault.TheVariants.{NotPairs}
-use Rattle.frames.specs.declared.decoded.Decoded.{Decoded}
+use Rattle.buffers.specs.Written.{written}
+use Rattle.buffers.specs.declared.room.Bytes.{Bytes}
 use Rattle.frames.specs.declared.faults.FrameFault.{FrameFault}
 use Rattle.frames.specs.Frames.{PlainFrame, frame_of}
 use Rattle.frames.specs.Lines.{PlainLine, pairs, frame_bytes}
-
-abbrev pub decoded_bytes : Decoded → List ℕ
-decoded_bytes d = take d.count d.bytes
 
 abbrev pub first_ten : Option (List ℕ) → Option (List ℕ)
 first_ten (Some bytes) = Some (take 10 bytes)
@@ -33,14 +31,14 @@ abbrev pub line_frame : PlainLine → Option (Result PlainFrame FrameFault)
 line_frame l = framed (frame_bytes l)
 
 -- what was kept of a line, and the frame that it is
-abbrev pub kept : Option Decoded → Option (List ℕ)
-kept (Some d) = Some (decoded_bytes d)
+abbrev pub kept : Option (Bytes 10) → Option (List ℕ)
+kept (Some d) = Some (written d)
 kept None = None
 
-abbrev pub kept_line : Result Decoded LineFault → Result (List ℕ) LineFault
-kept_line (Ok d) = Ok (decoded_bytes d)
+abbrev pub kept_line : Result (Bytes 10) LineFault → Result (List ℕ) LineFault
+kept_line (Ok d) = Ok (written d)
 kept_line (Err fault) = Err fault
 
-abbrev pub framed_line : Result Decoded LineFault → Option (Result PlainFrame FrameFault)
-framed_line (Ok d) = Some (frame_of (decoded_bytes d))
+abbrev pub framed_line : Result (Bytes 10) LineFault → Option (Result PlainFrame FrameFault)
+framed_line (Ok d) = Some (frame_of (written d))
 framed_line (Err fault) = None

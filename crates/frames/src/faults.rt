@@ -1,13 +1,14 @@
 // Why a line or a frame is refused.
 ghost use Rattle.std.specs.Prelude.{◌≡◌};
-ghost use Rattle.frames.specs.Faults.{line_fault_number, line_fault_layer, frame_fault_number, frame_fault_layer};
+ghost use Rattle.frames.specs.Faults.{layer_number, line_fault_number, line_fault_layer, frame_fault_number, frame_fault_layer};
 ghost use Rattle.frames.specs.declared.faults.FrameFault.TheVariants.{Reading};
 
+use crate::Layer;
 use reading::ReadingFault;
 
 #[derive(Clone, Copy, PartialEq, Eq, Debug)]
 pub enum LineFault {
-    NotPairs,
+    NotPairs = 21,
 }
 
 impl LineFault {
@@ -15,18 +16,14 @@ impl LineFault {
     pub fn number(self) -> u8
         ensures { result ≡ line_fault_number self }
     {
-        match self {
-            LineFault::NotPairs => 21,
-        }
+        self as u8
     }
 
     // The layer that reports it.
-    pub fn layer(self) -> u8
-        ensures { result ≡ line_fault_layer self }
+    pub fn layer(self) -> Layer
+        ensures { layer_number result ≡ line_fault_layer self }
     {
-        match self {
-            LineFault::NotPairs => 1,
-        }
+        Layer::Lines
     }
 }
 
@@ -52,15 +49,10 @@ impl FrameFault {
     }
 
     // The layer that reports it.
-    pub fn layer(self) -> u8
-        ensures { result ≡ frame_fault_layer self }
+    pub fn layer(self) -> Layer
+        ensures { layer_number result ≡ frame_fault_layer self }
     {
-        match self {
-            FrameFault::BadFrame
-            | FrameFault::OutOfTurn
-            | FrameFault::NoEnd
-            | FrameFault::Reading(_) => 2,
-        }
+        Layer::Frames
     }
 }
 

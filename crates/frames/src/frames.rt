@@ -15,7 +15,7 @@ const CORRECT: u8 = 4;
 
 const END: u8 = 5;
 
-#[derive(Clone, Copy)]
+#[derive(Clone, Copy, PartialEq, Eq, Debug)]
 pub enum Frame<'a> {
     Table {
         rows: u32,

@@ -8,13 +8,15 @@ mod decoded;
 mod faults;
 mod frames;
 mod hexadecimal;
+mod layers;
 mod lines;
 mod turns;
 
-pub use decoded::Decoded;
+pub use decoded::{Decoded, KEPT};
 pub use faults::{FrameFault, LineFault};
 pub use frames::{Frame, correction};
 pub use hexadecimal::put_line;
+pub use layers::Layer;
 pub use lines::{Line, decode_line, next_line};
 pub use turns::Turn;
 

@@ -1,5 +1,5 @@
 // The input is lines of hexadecimal, each ended by 0A.
-ghost use Rattle.std.specs.Prelude.{◌≡◌, ℕ, ◌<◌, ◌≤◌, [], ◌∷◌, length, MatchOption, ◌≢◌, slice_index};
+ghost use Rattle.std.specs.Prelude.{◌≡◌, ◌==◌, [], MatchOption, position};
 ghost use Rattle.frames.specs.Decoding.{decoded_pairs, decoded_line, line_frame, kept, kept_line, framed_line};
 ghost use Rattle.frames.specs.Lines.{digit_value, byte_value, lines_of};
 ghost use Rattle.frames.specs.Splitting.{plain_line, First};
@@ -9,24 +9,18 @@ use crate::{Decoded, LineFault};
 // The byte that ends a line.
 const END: u8 = b'\n';
 
-#[derive(Clone, Copy)]
-pub struct Line<'a> {
-    pub characters: &'a [u8],
-    pub ended: bool,
+// The characters of a line, which 0A ended, or the input before one came.
+#[derive(Clone, Copy, PartialEq, Eq, Debug)]
+pub enum Line<'a> {
+    Ended(&'a [u8]),
+    Cut(&'a [u8]),
 }
 
-// The place of the first 0A, or the length where there is none.
-fn line_end(input: &[u8]) -> usize
-    ensures within { result ≤ length input.now }
-    ensures before { (k : ℕ) → k < result → slice_index input.now k ≢ 10 }
-    ensures found { result < length input.now → slice_index input.now result ≡ 10 }
+// The place of the first 0A.
+fn line_end(input: &[u8]) -> Option<usize>
+    ensures { result ≡ position (λ character. character == 10) input.now }
 {
-    for (place, character) in input.iter().enumerate() {
-        if *character == END {
-            return place;
-        }
-    }
-    input.len()
+    input.iter().position(|character| *character == END)
 }
 
 // Splits off the first line; None for no input.
@@ -36,24 +30,9 @@ pub fn next_line(input: &[u8]) -> Option<(Line<'_>, &[u8])>
     if input.is_empty() {
         return None;
     }
-    let end = line_end(input);
-    let characters = &input[0..end];
-    if end < input.len() {
-        Some((
-            Line {
-                characters,
-                ended: true,
-            },
-            &input[end + 1..],
-        ))
-    } else {
-        Some((
-            Line {
-                characters,
-                ended: false,
-            },
-            &input[end..],
-        ))
+    match line_end(input) {
+        Some(end) => Some((Line::Ended(&input[..end]), &input[end + 1..])),
+        None => Some((Line::Cut(input), &input[input.len()..])),
     }
 }
 
@@ -82,10 +61,10 @@ fn byte(high: u8, low: u8) -> Option<u8>
 fn decode_pairs(characters: &[u8]) -> Option<Decoded>
     ensures { kept result ≡ decoded_pairs characters.now }
 {
-    let mut decoded = Decoded::empty();
+    let mut decoded = Decoded::new();
     let mut rest = characters;
     while let [high, low, others @ ..] = rest {
-        decoded.keep(byte(*high, *low)?);
+        decoded.push(byte(*high, *low)?);
         rest = others;
     }
     if rest.is_empty() { Some(decoded) } else { None }
@@ -96,11 +75,10 @@ pub fn decode_line(line: Line<'_>) -> Result<Decoded, LineFault>
     ensures bytes { kept_line result ≡ decoded_line (plain_line line.entry) }
     ensures frame { framed_line result ≡ line_frame (plain_line line.entry) }
 {
-    if !line.ended || line.characters.is_empty() {
-        return Err(LineFault::NotPairs);
-    }
-    match decode_pairs(line.characters) {
-        Some(decoded) => Ok(decoded),
-        None => Err(LineFault::NotPairs),
+    match line {
+        Line::Ended(characters) if !characters.is_empty() => {
+            decode_pairs(characters).ok_or(LineFault::NotPairs)
+        }
+        _ => Err(LineFault::NotPairs),
     }
 }

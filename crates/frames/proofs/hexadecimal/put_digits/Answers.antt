@@ -1,5 +1,4 @@
-use Rattle.std.proofs.Common.{◌≤◌, length, arith}
-use Rattle.std.proofs.lemmas.List.{take_all}
+use Rattle.std.proofs.Common.{arith}
 use Rattle.buffers.proofs.Putting.{put_none}
 use Rattle.frames.proofs.Putting.{put_byte, hex_digits_none}
 use Rattle.frames.proofs.hexadecimal.put_digits.Goals as goal
@@ -14,9 +13,3 @@ loop-byte-preserved c =
           c.digit-in-loop-byte.result (omega arith) (omega arith) l.invariant.0 c.digit.ensures c.digit-in-loop-byte.ensures,
       omega arith,
     )
-
-pub returns : goal.returns
-returns c =
-    let bytes = c.args.bytes.now in
-    let all : length bytes ≤ c.loop-byte.byte-index = omega arith in
-    rw (take_all c.loop-byte.byte-index bytes all) at c.loop-byte.invariant.0
