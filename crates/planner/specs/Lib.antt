@@ -8,3 +8,4 @@ pub mod Given
 pub mod Law
 pub mod Lent
 pub mod Made
+pub mod Changed

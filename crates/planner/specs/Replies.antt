@@ -1,9 +1,10 @@
 -- The calls of a list, and what is replied to them.
-use Rattle.std.specs.Prelude.{ℕ, take}
+use Rattle.std.specs.Prelude.{ℕ, take, Ok, Err, Result}
 use Rattle.planner.specs.declared.calls.Call as code
 use Rattle.planner.specs.declared.calls.Call.TheVariants.{Table, Tie, Test, Correct, Solve, Tell, Check}
 use Rattle.planner.specs.declared.calls.Reply.{Reply}
 use Rattle.planner.specs.declared.calls.Reply.TheVariants.{Placed, Done, Solved, Told, Checked, Refused}
+use Rattle.planner.specs.declared.refusals.Refusal.{Refusal}
 use Rattle.planner.specs.Calls.{Call, add_table, set_tie, set_test, correct_test, solve_with, tell_into, check_plan, Answer, placed, done, solved, told, checked, refused}
 use Rattle.planner.specs.Refusals.{refusal_number}
 
@@ -24,3 +25,8 @@ answer_of (Solved tries price) = solved tries price
 answer_of (Told bytes len price) = told (take len bytes) price
 answer_of (Checked price) = checked price
 answer_of (Refused e) = refused (refusal_number e)
+
+-- A refusal is a reply too.
+abbrev pub replied : {P : Type 0} → Result (Reply P) Refusal → Reply P
+replied (Ok reply) = reply
+replied (Err e) = Refused e

@@ -9,8 +9,8 @@ use solver::SolveRefusal;
 
 #[derive(Clone, Copy, PartialEq, Eq, Debug)]
 pub enum TellRefusal {
-    NothingStands,
-    BufferTooShort,
+    NothingStands = 15,
+    BufferTooShort = 17,
 }
 
 impl TellRefusal {
@@ -18,15 +18,12 @@ impl TellRefusal {
     pub fn number(self) -> u8
         ensures { result ≡ tell_number self }
     {
-        match self {
-            TellRefusal::NothingStands => 15,
-            TellRefusal::BufferTooShort => 17,
-        }
+        self as u8
     }
 }
 
 // A refusal of any call.
-#[derive(Clone, Copy)]
+#[derive(Clone, Copy, PartialEq, Eq, Debug)]
 pub enum Refusal {
     Change(ChangeRefusal),
     Solve(SolveRefusal),

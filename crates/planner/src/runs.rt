@@ -4,7 +4,7 @@ ghost use Rattle.catalogue.specs.Asked.{asked};
 ghost use Rattle.planner.specs.Law.{Run};
 ghost use Rattle.planner.specs.Lent.{Leaves, Works};
 ghost use Rattle.planner.specs.Made.{Made};
-ghost use Rattle.planner.specs.Replies.{answer_of, call_of};
+ghost use Rattle.planner.specs.Replies.{answer_of, call_of, replied};
 ghost use Rattle.planner.specs.States.{fresh, state_of};
 
 use crate::{Call, Question, Refusal, Reply};
@@ -17,70 +17,58 @@ fn make<M: PriceModel>(
     prices: &mut [M::Price],
     sizes: &mut [u32],
     choices: &mut [u16],
-) -> Reply<M::Price>
-    ensures made { Made M.meaning question.old (call_of (length prices.old) (length sizes.old) (length choices.old) call.entry) (answer_of result) question.new }
-    ensures lists { Leaves (M.meaning question.old.model) (asked question.old.held.catalogue) (call_of (length prices.old) (length sizes.old) (length choices.old) call.entry) (answer_of result) (record { prices = prices.old; sizes = sizes.old; choices = choices.old }) (record { prices = prices.new; sizes = sizes.new; choices = choices.new }) }
+) -> Result<Reply<M::Price>, Refusal>
+    ensures made { Made M.meaning question.old (call_of (length prices.old) (length sizes.old) (length choices.old) call.entry) (answer_of (replied result)) question.new }
+    ensures lists { Leaves (M.meaning question.old.model) (asked question.old.held.catalogue) (call_of (length prices.old) (length sizes.old) (length choices.old) call.entry) (answer_of (replied result)) (record { prices = prices.old; sizes = sizes.old; choices = choices.old }) (record { prices = prices.new; sizes = sizes.new; choices = choices.new }) }
 {
-    match call {
-        Call::Table { rows } => match question.table(rows) {
-            Ok(number) => Reply::Placed(number),
-            Err(refusal) => Reply::Refused(Refusal::Change(refusal)),
-        },
+    Ok(match call {
+        Call::Table { rows } => Reply::Placed(question.table(rows)?),
         Call::Tie {
             table,
             other,
             p,
             q,
             cost,
-        } => match question.tie(table, other, p, q, cost) {
-            Ok(()) => Reply::Done,
-            Err(refusal) => Reply::Refused(Refusal::Change(refusal)),
-        },
+        } => {
+            question.tie(table, other, p, q, cost)?;
+            Reply::Done
+        }
         Call::Test {
             table,
             p,
             q,
             cost,
             kind,
-        } => match question.test(table, p, q, cost, kind) {
-            Ok(()) => Reply::Done,
-            Err(refusal) => Reply::Refused(Refusal::Change(refusal)),
-        },
-        Call::Correct { table, by } => match question.correct(table, by) {
-            Ok(()) => Reply::Done,
-            Err(refusal) => Reply::Refused(Refusal::Change(refusal)),
-        },
-        Call::Solve => match question.solve(prices, sizes, choices) {
-            Ok(found) => Reply::Solved {
-                tries: found.0,
-                price: found.1,
-            },
-            Err(refusal) => Reply::Refused(Refusal::Solve(refusal)),
-        },
+        } => {
+            question.test(table, p, q, cost, kind)?;
+            Reply::Done
+        }
+        Call::Correct { table, by } => {
+            question.correct(table, by)?;
+            Reply::Done
+        }
+        Call::Solve => {
+            let (tries, price) = question.solve(prices, sizes, choices)?;
+            Reply::Solved { tries, price }
+        }
         Call::Tell => {
             let mut bytes = [0; 58];
-            match question.tell(&mut bytes) {
-                Ok(told) => Reply::Told {
-                    bytes,
-                    len: told.0,
-                    price: told.1,
-                },
-                Err(refusal) => Reply::Refused(Refusal::Tell(refusal)),
-            }
+            let (len, price) = question.tell(&mut bytes)?;
+            Reply::Told { bytes, len, price }
         }
-        Call::Check(bytes) => match question.check(bytes, prices) {
-            Ok(price) => Reply::Checked(price),
-            Err(refusal) => Reply::Refused(Refusal::Check(refusal)),
-        },
-    }
+        Call::Check(bytes) => Reply::Checked(question.check(bytes, prices)?),
+    })
 }
 
-// Writes down a reply.
-fn note<P: Copy>(replies: &mut [Reply<P>], i: usize, reply: Reply<P>)
+// Writes down what a call replied.
+fn note<P: Copy>(replies: &mut [Reply<P>], i: usize, answer: Result<Reply<P>, Refusal>)
     requires { i < length replies.old }
-    ensures { replies.new ≡ updated replies.old i reply }
+    ensures { replies.new ≡ updated replies.old i (replied answer) }
 {
-    replies[i] = reply;
+    replies[i] = match answer {
+        Ok(reply) => reply,
+        Err(refusal) => Reply::Refused(refusal),
+    };
 }
 
 // Makes the calls one after another on a new question, as many as there is room to write the reply of, and gives the question that they leave.
@@ -99,8 +87,8 @@ pub fn replay<M: PriceModel>(
     let mut question = Question::new(model);
     let count = calls.len().min(replies.len());
     for i in 0..count {
-        let reply = make(&mut question, calls[i], prices, sizes, choices);
-        note(replies, i, reply);
+        let answer = make(&mut question, calls[i], prices, sizes, choices);
+        note(replies, i, answer);
     }
     question
 }

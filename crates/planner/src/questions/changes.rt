@@ -3,8 +3,11 @@ ghost use Rattle.std.specs.Prelude.{◌≡◌, None};
 ghost use Rattle.catalogue.specs.Asked.{asked};
 ghost use Rattle.catalogue.specs.Changes.{Follows, corrected, tabled, tested, tied};
 ghost use Rattle.planner.specs.Calls.{add_table, correct_test, done_of, placed_of, set_test, set_tie};
+ghost use Rattle.planner.specs.Changed.{Leaves};
 ghost use Rattle.planner.specs.Made.{Made};
 ghost use Rattle.planner.specs.States.{fresh, state_of};
+ghost use Rattle.catalogue.specs.declared.catalogues.Catalogue.{Catalogue};
+ghost use Rattle.std.specs.Fn.{FnOnceReturnsAtMut};
 
 use super::Question;
 use crate::Held;
@@ -41,17 +44,22 @@ impl<M: PriceModel> Question<M> {
         &self.held.catalogue
     }
 
-    // Takes a changed catalogue, and takes away the plan that stood.
-    fn change(&mut self, catalogue: Catalogue)
+    // Makes a call on a copy of the catalogue. Accepted, it puts the copy in place and takes away the plan that stood; refused, it changes nothing.
+    fn change<T, F: FnOnce(&mut Catalogue) -> Result<T, ChangeRefusal>>(
+        &mut self,
+        call: F,
+    ) -> Result<T, ChangeRefusal>
+        requires { F.IsAlwaysCallable call }
         ensures model { self.new.model ≡ self.old.model }
-        ensures catalogue { self.new.held.catalogue ≡ catalogue }
-        ensures standing { self.new.held.standing ≡ None }
+        ensures called { (after : Catalogue) × FnOnceReturnsAtMut F.FnOnce call self.old.held.catalogue result after × Leaves result after self.old.held self.new.held }
     {
-        let standing = None;
+        let mut catalogue = self.held.catalogue;
+        let answer = call(&mut catalogue)?;
         self.held = Held {
             catalogue,
-            standing,
+            standing: None,
         };
+        Ok(answer)
     }
 
     // Adds a table and answers its number.
@@ -59,10 +67,7 @@ impl<M: PriceModel> Question<M> {
         ensures made { Made M.meaning self.old (add_table rows) (placed_of result) self.new }
         ensures outcome { Follows (tabled (asked self.old.held.catalogue) rows) (asked self.old.held.catalogue) result (asked self.new.held.catalogue) }
     {
-        let mut catalogue = self.held.catalogue;
-        let number = catalogue.table(rows)?;
-        self.change(catalogue);
-        Ok(number)
+        self.change(|catalogue| catalogue.table(rows))
     }
 
     // Sets the tie between two tables.
@@ -77,10 +82,11 @@ impl<M: PriceModel> Question<M> {
         ensures made { Made M.meaning self.old (set_tie table other p q cost) (done_of result) self.new }
         ensures outcome { Follows (tied (asked self.old.held.catalogue) table other p q cost) (asked self.old.held.catalogue) result (asked self.new.held.catalogue) }
     {
-        let mut catalogue = self.held.catalogue;
-        catalogue.tie(table, other, p, q, cost)?;
-        self.change(catalogue);
-        Ok(())
+        self.change(
+            |catalogue: &mut Catalogue| -> Result<(), ChangeRefusal>
+                ensures { Follows (tied (asked catalogue.old) table other p q cost) (asked catalogue.old) result (asked catalogue.new) }
+            { catalogue.tie(table, other, p, q, cost) },
+        )
     }
 
     // Sets the test on a table.
@@ -95,10 +101,11 @@ impl<M: PriceModel> Question<M> {
         ensures made { Made M.meaning self.old (set_test table p q cost kind) (done_of result) self.new }
         ensures outcome { Follows (tested (asked self.old.held.catalogue) table p q cost kind) (asked self.old.held.catalogue) result (asked self.new.held.catalogue) }
     {
-        let mut catalogue = self.held.catalogue;
-        catalogue.test(table, p, q, cost, kind)?;
-        self.change(catalogue);
-        Ok(())
+        self.change(
+            |catalogue: &mut Catalogue| -> Result<(), ChangeRefusal>
+                ensures { Follows (tested (asked catalogue.old) table p q cost kind) (asked catalogue.old) result (asked catalogue.new) }
+            { catalogue.test(table, p, q, cost, kind) },
+        )
     }
 
     // Adds to the cost of a table's test, exactly.
@@ -106,9 +113,6 @@ impl<M: PriceModel> Question<M> {
         ensures made { Made M.meaning self.old (correct_test table by) (done_of result) self.new }
         ensures outcome { Follows (corrected (asked self.old.held.catalogue) table by) (asked self.old.held.catalogue) result (asked self.new.held.catalogue) }
     {
-        let mut catalogue = self.held.catalogue;
-        catalogue.correct(table, by)?;
-        self.change(catalogue);
-        Ok(())
+        self.change(|catalogue| catalogue.correct(table, by))
     }
 }
