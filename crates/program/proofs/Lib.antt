@@ -1,6 +1,6 @@
 pub mod Called
-pub mod Judged
 pub mod LineByLine
 pub mod LinesPut
 pub mod Ran
 pub mod Honesty
+pub mod Naming

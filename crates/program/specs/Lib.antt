@@ -3,3 +3,4 @@ pub mod Lines
 pub mod Outputs
 pub mod Runs
 pub mod Statement
+pub mod Labels

@@ -1,14 +1,15 @@
 // Why a program writes no plan.
 ghost use Rattle.std.specs.Prelude.{◌≡◌};
-ghost use Rattle.program.specs.Faults.{program_layer, program_number};
+ghost use Rattle.frames.specs.Faults.{layer_number};
+ghost use Rattle.program.specs.Faults.{on_line, program_layer, program_number};
 ghost use Rattle.program.specs.declared.faults.ProgramFault.TheVariants.{Change, Frame, Line, Solve};
 
 use catalogue::ChangeRefusal;
-use frames::{FrameFault, LineFault};
+use frames::{FrameFault, Layer, LineFault};
 use solver::SolveRefusal;
 
 // The fault of a layer below, unchanged, or that the input is too long.
-#[derive(Clone, Copy)]
+#[derive(Clone, Copy, PartialEq, Eq, Debug)]
 pub enum ProgramFault {
     InputTooLong,
     Line(LineFault),
@@ -31,25 +32,35 @@ impl ProgramFault {
         }
     }
 
-    // The layer that refuses: 1 lines, 2 frames, 3 changes of the question, 4 solve.
-    pub fn layer(self) -> u8
-        ensures { result ≡ program_layer self }
+    // The layer that refuses.
+    pub fn layer(self) -> Layer
+        ensures { layer_number result ≡ program_layer self }
     {
         match self {
-            ProgramFault::InputTooLong => 1,
+            ProgramFault::InputTooLong => Layer::Lines,
             ProgramFault::Line(fault) => fault.layer(),
             ProgramFault::Frame(fault) => fault.layer(),
-            ProgramFault::Change(_) => 3,
-            ProgramFault::Solve(_) => 4,
+            ProgramFault::Change(_) => Layer::Changes,
+            ProgramFault::Solve(_) => Layer::Solve,
         }
     }
 }
 
 // A fault and the number of the line that it names.
-#[derive(Clone, Copy)]
+#[derive(Clone, Copy, PartialEq, Eq, Debug)]
 pub struct Refused {
     pub fault: ProgramFault,
     pub line: u16,
+}
+
+// What was judged, or the refusal of the line that it names.
+pub(crate) fn at_line<T>(judged: Result<T, ProgramFault>, line: u16) -> Result<T, Refused>
+    ensures { result ≡ on_line line judged }
+{
+    match judged {
+        Ok(value) => Ok(value),
+        Err(fault) => Err(Refused { fault, line }),
+    }
 }
 
 impl From<LineFault> for ProgramFault {

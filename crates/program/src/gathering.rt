@@ -5,8 +5,9 @@ ghost use Rattle.frames.specs.Lines.{lines_of};
 ghost use Rattle.frames.specs.declared.turns.Turn.TheVariants.{Tables};
 ghost use Rattle.program.specs.Runs.{Gathers, gathered};
 
-use crate::judging::judge;
-use crate::{ProgramFault, Refused};
+use crate::Refused;
+use crate::faults::at_line;
+use crate::judging::{ended, judge};
 use frames::{Turn, next_line};
 use planner::Question;
 use pricing::PriceModel;
@@ -25,22 +26,9 @@ pub(crate) fn gather<M: PriceModel>(
     let mut rest = input;
     while let Some((line, others)) = next_line(rest) {
         number += 1;
-        match judge(question, turn, line) {
-            Ok(after) => turn = after,
-            Err(fault) => {
-                return Err(Refused {
-                    fault,
-                    line: number,
-                });
-            }
-        }
+        turn = at_line(judge(question, turn, line), number)?;
         rest = others;
     }
-    match turn.finish() {
-        Ok(()) => Ok(number),
-        Err(fault) => Err(Refused {
-            fault: ProgramFault::Frame(fault),
-            line: number + 1,
-        }),
-    }
+    at_line(ended(turn), number + 1)?;
+    Ok(number)
 }

@@ -3,7 +3,8 @@ ghost use Rattle.std.specs.Prelude.{◌≡◌};
 ghost use Rattle.catalogue.specs.Asked.{asked};
 ghost use Rattle.frames.specs.Frames.{plain_frame};
 ghost use Rattle.frames.specs.Splitting.{plain_line};
-ghost use Rattle.program.specs.Lines.{Calls, Judges, called, judged};
+ghost use Rattle.frames.specs.Turns.{turn_finished};
+ghost use Rattle.program.specs.Lines.{Calls, Judges, called, frame_or_fault, judged};
 
 use crate::ProgramFault;
 use frames::{Frame, Line, Turn, correction, decode_line};
@@ -60,4 +61,11 @@ pub(crate) fn judge<M: PriceModel>(
     let after = turn.after(&frame)?;
     call(question, frame)?;
     Ok(after)
+}
+
+// After the last line: whether the end was among them.
+pub(crate) fn ended(turn: Turn) -> Result<(), ProgramFault>
+    ensures { result ≡ frame_or_fault (turn_finished turn) }
+{
+    Ok(turn.finish()?)
 }

@@ -4,6 +4,7 @@
 mod faults;
 mod gathering;
 mod judging;
+mod labels;
 mod outputs;
 mod running;
 mod writing;

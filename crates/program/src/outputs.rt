@@ -1,7 +1,9 @@
 // The lines that a program writes.
 ghost use Rattle.std.specs.Prelude.{◌≡◌, ◌+◌, ◌*◌, ◌<◌, ◌≤◌, [], ◌∷◌, ◌++◌, length, take};
 ghost use Rattle.frames.specs.Hexadecimal.{hex_line};
+ghost use Rattle.program.specs.Labels.{label_byte};
 
+use crate::labels::Label;
 use frames::put_line;
 
 // Room for a plan of 29 pairs, the longest price and the tries.
@@ -10,7 +12,7 @@ const ROOM: usize = 191;
 // The bytes that are written so far, of which the first `len` count.
 #[derive(Clone, Copy)]
 pub struct Output {
-    bytes: [u8; 191],
+    bytes: [u8; ROOM],
     len: usize,
     ghost room: { length bytes ≡ 191 },
     ghost within: { len ≤ 191 },
@@ -56,13 +58,13 @@ impl Output {
     }
 
     // Writes a label and bytes as a line.
-    pub(crate) fn labelled(&mut self, label: u8, bytes: &[u8])
+    pub(crate) fn labelled(&mut self, label: Label, bytes: &[u8])
         requires { (length bytes.now ≤ 12) × (self.old.len + (2 * length bytes.now + 3) ≤ 191) }
-        ensures text { take self.new.len self.new.bytes ≡ take self.old.len self.old.bytes ++ hex_line (label ∷ bytes.now) }
+        ensures text { take self.new.len self.new.bytes ≡ take self.old.len self.old.bytes ++ hex_line (label_byte label ∷ bytes.now) }
         ensures length { self.new.len ≡ self.old.len + (2 * length bytes.now + 3) }
     {
         let mut room = [0; 13];
-        put_label(&mut room, label, bytes);
+        put_label(&mut room, label as u8, bytes);
         self.line(&room[0..bytes.len() + 1]);
     }
 }

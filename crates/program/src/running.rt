@@ -6,6 +6,7 @@ ghost use Rattle.program.specs.Outputs.{written};
 ghost use Rattle.program.specs.Runs.{Answered, ran};
 ghost use Rattle.program.specs.Statement.{Honest};
 
+use crate::faults::at_line;
 use crate::gathering::gather;
 use crate::writing::{fault_output, plan_output};
 use crate::{Output, ProgramFault, Refused};
@@ -33,18 +34,13 @@ fn answer<M: PrintableModel>(
         });
     }
     let end = gather(question, input)?;
-    let found = match question.solve(prices, sizes, choices) {
+    let (tries, _) = match question.solve(prices, sizes, choices) {
         Ok(found) => found,
-        Err(refusal) => {
-            return Err(Refused {
-                fault: ProgramFault::Solve(refusal),
-                line: end,
-            });
-        }
+        Err(refusal) => return at_line(Err(refusal.into()), end),
     };
     let mut bytes = [0; 58];
     match question.tell(&mut bytes) {
-        Ok(told) => Ok(plan_output(question.model(), &bytes[0..told.0], told.1, found.0)),
+        Ok((len, price)) => Ok(plan_output(question.model(), &bytes[..len], price, tries)),
         Err(_) => unreachable(),
     }
 }

@@ -4,24 +4,18 @@ ghost use Rattle.frames.specs.Hexadecimal.{hex_line};
 ghost use Rattle.pricing.specs.Shown.{in_bytes};
 ghost use Rattle.program.specs.Outputs.{fault_line, pair_lines, plan_lines};
 
+use crate::labels::Label;
 use crate::{Output, Refused};
 use pricing::{PRICE_ROOM, PrintableModel};
-
-// The first bytes of a fault line, of a price and of the tries.
-const FAULT: u8 = 0xFF;
-
-const PRICE: u8 = 0x1E;
-
-const TRIES: u8 = 0x1F;
 
 // A refusal as one line of five bytes.
 pub(crate) fn fault_output(refused: Refused) -> Output
     ensures { take result.len result.bytes ≡ fault_line refused }
 {
-    let (layer, number) = (refused.fault.layer(), refused.fault.number());
-    let (high, low) = ((refused.line / 256) as u8, (refused.line % 256) as u8);
+    let (layer, number) = (refused.fault.layer().number(), refused.fault.number());
+    let [high, low] = refused.line.to_be_bytes();
     let mut output = Output::empty();
-    output.labelled(FAULT, &[layer, number, high, low]);
+    output.labelled(Label::Fault, &[layer, number, high, low]);
     output
 }
 
@@ -46,7 +40,7 @@ fn put_price<M: PrintableModel>(output: &mut Output, model: &M, price: M::Price)
 {
     let mut room = [0; PRICE_ROOM];
     let count = model.bytes(price, &mut room);
-    output.labelled(PRICE, &room[0..count]);
+    output.labelled(Label::Price, &room[0..count]);
 }
 
 // The tries in 8 bytes.
@@ -54,7 +48,7 @@ fn put_tries(output: &mut Output, tries: u64)
     requires { output.old.len ≤ 172 }
     ensures text { take output.new.len output.new.bytes ≡ take output.old.len output.old.bytes ++ hex_line (0x1F ∷ in_bytes 8 tries) }
 {
-    output.labelled(TRIES, &tries.to_be_bytes());
+    output.labelled(Label::Tries, &tries.to_be_bytes());
 }
 
 // A plan, its price and its tries.
