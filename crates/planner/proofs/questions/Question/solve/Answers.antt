@@ -4,7 +4,7 @@ use Rattle.catalogue.specs.Asked.{asked}
 use Rattle.solver.specs.Solves.{enough, outcome}
 use Rattle.planner.specs.States.{state_of}
 use Rattle.planner.proofs.Promise.{decided}
-use Rattle.planner.proofs.Solving.{refused_step, solved_step, stands_short, stands_valid, stands_within}
+use Rattle.planner.proofs.Solving.{refused_step}
 use Rattle.planner.proofs.questions.Question.solve.Goals as goal
 
 pub returns-in_err-found : goal.returns-in_err-found
@@ -23,34 +23,3 @@ returns-in_err-found g c =
       promise = decided m laws (state_of q.held) _ _ ps ss cs step;
       lists = c.in_err-found.ensures.lists;
     })
-
-pub invariant_of-self-2 : goal.invariant_of-self-2
-invariant_of-self-2 g c =
-    let q = c.args.self.now in
-    let m = g.M.PriceModel.meaning q.model in
-    let laws = g.met.M.PriceModel.lawful q.model in
-    let Q = asked q.held.catalogue in
-    let room = enough Q (length c.args.prices.now) (length c.args.sizes.now) (length c.args.choices.now) in
-    let x = c.in_ok-found.found in
-    let t = c.in_ok-found.ensures.outcome in
-    record {
-      short = stands_short m laws Q q.held.catalogue.few room x t;
-      within = stands_within m laws Q q.held.catalogue.few room x t;
-      valid = ∣ stands_valid m laws Q q.held.catalogue.few room x t ∣₁;
-    }
-
-pub returns : goal.returns
-returns g c =
-    let q = c.args.self.now in
-    let m = g.M.PriceModel.meaning q.model in
-    let laws = g.met.M.PriceModel.lawful q.model in
-    let Q = asked q.held.catalogue in
-    let ps = length c.args.prices.now in
-    let ss = length c.args.sizes.now in
-    let cs = length c.args.choices.now in
-    let step = solved_step m q.held (outcome m Q (enough Q ps ss cs)) c.in_ok-found.found c.in_ok-found.ensures.outcome in
-    record {
-      made = record { model = refl; step = step };
-      promise = decided m laws (state_of q.held) _ _ ps ss cs step;
-      lists = c.in_ok-found.ensures.lists;
-    }

@@ -1,30 +1,11 @@
-use Rattle.std.proofs.Common.{◌≡◌, ℕ, ◌<◌, ◌≤◌, List, ◌++◌, length, take, drop, refl, ap, ◌∙◌, subst, arith, length-take, take_at, drop_at}
+use Rattle.std.proofs.Common.{◌≡◌, ℕ, ◌≤◌, List, ◌++◌, length, take, drop, refl, ap, ◌∙◌, subst, arith, length-take, take_at, drop_at}
 use Rattle.planner.specs.Calls.{tell_into, told}
 use Rattle.planner.specs.Standing.{told_len, told_room}
 use Rattle.planner.specs.States.{State, Stood, state_of, stood_of}
 use Rattle.planner.specs.Steps.{Step}
 use Rattle.planner.proofs.Promise.{promised, reached_sound}
-use Rattle.planner.proofs.Telling.{tell_short, tell_long}
+use Rattle.planner.proofs.Telling.{tell_long}
 use Rattle.planner.proofs.questions.Question.tell.Goals as goal
-
-pub returns-then-buffer-standing : goal.returns-then-buffer-standing
-returns-then-buffer-standing g c =
-    let m = g.M.PriceModel.meaning c.args.self.now.model in
-    let s : State g.row.M-Price.Denot = state_of c.args.self.now.held in
-    let x = c.in-Some.standing in
-    let y : Stood g.row.M-Price.Denot = record { plan = take x.len x.bytes; price = x.price; tries = x.tries } in
-    let within : x.len ≤ length x.bytes = subst (λ o. told_len o ≤ told_room o) c.in-Some.is c.args.self.now.within in
-    let long : length (take x.len x.bytes) ≡ x.len = simp length-take (omega arith) in
-    let h : length c.args.buffer.now < length (take x.len x.bytes) = omega arith in
-    let step = tell_short m s y (length c.args.buffer.now) (ap stood_of c.in-Some.is) h in
-    record {
-      made = record { model = refl; step = step };
-      promise = λ r. promised m (g.met.M.PriceModel.lawful _) s (tell_into (length c.args.buffer.now)) _ s (reached_sound m (g.met.M.PriceModel.lawful _) s r) step;
-      rest = refl;
-    }
-
-pub shared_ref_as_front-copy_from_slice : goal.shared_ref_as_front-copy_from_slice
-shared_ref_as_front-copy_from_slice g c = subst (λ o. told_len o ≤ 58) c.in-Some.is c.args.self.now.short
 
 pub returns : goal.returns
 returns g c =
