@@ -1,6 +1,7 @@
 pub mod Splitting
 pub mod Holding
 pub mod TriesMade
+pub mod Walks
 pub mod Undercut
 pub mod Nth
 pub mod Steps

@@ -14,7 +14,7 @@ pub found_more : {X : Type 0} (f : ℕ → Option X) (n : ℕ) → found f (n + 
 unfolding found
 found_more f n = ap (found f) (add-one n)
 
-one_at_most : (b : Bool) → cond b 1 0 ≤ 1
+pub one_at_most : (b : Bool) → cond b 1 0 ≤ 1
 one_at_most true = omega arith
 one_at_most false = omega arith
 

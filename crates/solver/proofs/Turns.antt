@@ -26,22 +26,18 @@ length_priced prices k (Some e) = length-set prices k e.price
 
 module _ {P : Type 0} (m : Model P) (Q : Question) (p : ℕ) (prices₀ prices : List P) (sizes₀ sizes choices₀ choices : List ℕ) (R S : ℕ)
     (h : Solved m Q p prices₀ prices sizes₀ sizes choices₀ choices) (o : Own Q R S) (at : place Q R S ≡ p) where
-  pub solved_turn : (Tp Ts Tc : ℕ) (new_prices : List P) (new_sizes new_choices : List ℕ) → Tp ≡ all_tests Q → Ts ≡ all_tests Q → Tc ≡ all_tests Q
+  pub solved_turn : (T : ℕ) (new_prices : List P) (new_sizes new_choices : List ℕ) → T ≡ all_tests Q
       → p < length prices → p < length sizes → p < length choices
-      → new_prices ≡ priced prices (place_of Tp R S) (row_entry m Q (held prices choices Tp) R S)
-      → new_sizes ≡ set sizes (place_of Ts R S) (size Q R S)
-      → new_choices ≡ set choices (place_of Tc R S) (choice_of (row_entry m Q (held prices choices Tp) R S))
+      → new_prices ≡ priced prices p (row_entry m Q (held prices choices T) R S)
+      → new_sizes ≡ set sizes p (size Q R S)
+      → new_choices ≡ set choices p (choice_of (row_entry m Q (held prices choices T) R S))
       → Solved m Q (p + 1) prices₀ new_prices sizes₀ new_sizes choices₀ new_choices
-  solved_turn Tp Ts Tc new_prices new_sizes new_choices ep es ec lp ls lc vp vs vc =
+  solved_turn T new_prices new_sizes new_choices tested lp ls lc vp vs vc =
       let e : Option (Entry P) = row_entry m Q (held prices choices (all_tests Q)) R S in
-      let ps : priced prices p e ≡ new_prices =
-      sym (vp ∙ ap (λ (T : ℕ). priced prices (place_of T R S) (row_entry m Q (held prices choices T) R S)) ep ∙ ap (λ (k : ℕ). priced prices k e) at) in
-      let ss : set sizes p (size Q R S) ≡ new_sizes = sym (vs ∙ ap (λ (T : ℕ). set sizes (place_of T R S) (size Q R S)) es ∙ ap (λ (k : ℕ). set sizes k (size Q R S)) at) in
-      let cs : set choices p (choice_of e) ≡ new_choices =
-      sym (vc ∙ ap (λ (T : ℕ). set choices (place_of Tc R S) (choice_of (row_entry m Q (held prices choices T) R S))) ep
-      ∙ ap (λ (T : ℕ). set choices (place_of T R S) (choice_of e)) ec ∙ ap (λ (k : ℕ). set choices k (choice_of e)) at) in
+      let ps : priced prices p e ≡ new_prices = sym (vp ∙ ap (λ (t : ℕ). priced prices p (row_entry m Q (held prices choices t) R S)) tested) in
+      let cs : set choices p (choice_of e) ≡ new_choices = sym (vc ∙ ap (λ (t : ℕ). set choices p (choice_of (row_entry m Q (held prices choices t) R S))) tested) in
       subst (λ x. Solved m Q (p + 1) prices₀ x sizes₀ new_sizes choices₀ new_choices) ps
-      (subst (λ (x : List ℕ). Solved m Q (p + 1) prices₀ (priced prices p e) sizes₀ x choices₀ new_choices) ss
+      (subst (λ (x : List ℕ). Solved m Q (p + 1) prices₀ (priced prices p e) sizes₀ x choices₀ new_choices) (sym vs)
       (subst (λ (x : List ℕ). Solved m Q (p + 1) prices₀ (priced prices p e) sizes₀ (set sizes p (size Q R S)) choices₀ x) cs
       (solved_more m Q p prices₀ prices sizes₀ sizes choices₀ choices R S h o at e lp ls lc refl)))
 
@@ -72,13 +68,6 @@ first_turn Q R S e f = (
   ap (λ (r : ℕ). place Q r S) e ∙ ap (place Q 0) f ∙ place_start (all_tests Q),
 )
 
--- The place is within a list that is as long as the one that was given.
-pub in_room : {A : Type 0} (given over now : List A) (place rows : ℕ) → over ≡ given → length now ≡ length over → rows ≤ length given → place < rows → place < length now
-in_room given over now place rows e f l h = omega (arith, ap length e)
-
--- The same of lists that are equal.
-pub solved_as : {P : Type 0} (m : Model P) (Q : Question) (p q : ℕ) (a b c d : List P) (e f g h i j k l : List ℕ) → p ≡ q → a ≡ b → c ≡ d → e ≡ f → g ≡ h → i ≡ j → k ≡ l
-    → Solved m Q p a c e g i k → Solved m Q q b d f h j l
-solved_as m Q p q a b c d e f g h i j k l u v w x y z t s =
-    subst (λ n. Solved m Q n b d f h j l) u (subst (λ n. Solved m Q p n d f h j l) v (subst (λ n. Solved m Q p a n f h j l) w
-    (subst (λ n. Solved m Q p a c n h j l) x (subst (λ n. Solved m Q p a c e n j l) y (subst (λ n. Solved m Q p a c e g n l) z (subst (λ n. Solved m Q p a c e g i n) t s))))))
+pub solved_end : {P : Type 0} (m : Model P) (Q : Question) (p q : ℕ) (prices₀ prices : List P) (sizes₀ sizes choices₀ choices : List ℕ) → p ≡ q
+    → Solved m Q p prices₀ prices sizes₀ sizes choices₀ choices → Solved m Q q prices₀ prices sizes₀ sizes choices₀ choices
+solved_end m Q p q prices₀ prices sizes₀ sizes choices₀ choices e = subst (λ (k : ℕ). Solved m Q k prices₀ prices sizes₀ sizes choices₀ choices) e

@@ -1,3 +1,4 @@
 pub mod Held
 pub mod Solved
 pub mod Solves
+pub mod Tries
