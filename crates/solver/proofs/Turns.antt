@@ -1,11 +1,12 @@
 -- One turn of the loop over the rows.
-use Rattle.std.proofs.Common.{◌≡◌, ℕ, ◌+◌, ◌-◌, ◌^◌, ◌<◌, ◌≤◌, List, length, set, Some, None, Option, sym, refl, ap, ◌∙◌, subst, arith, length-set, pow_pos}
+use Rattle.std.proofs.Common.{◌≡◌, ℕ, ◌+◌, ◌-◌, ◌^◌, ◌<◌, ◌≤◌, List, length, set, Some, None, Option, sym, refl, ap, ◌∙◌, subst, MatchOption, IsSomeAnd, ⊎_elim, arith, length-set, pow_pos}
 use lib.Bits.{and_zero_l}
+use Rattle.std.proofs.lemmas.Bool.{cases_lt}
 use Rattle.pricing.specs.Models.{Model}
-use Rattle.sets.specs.Sets.{◌⊆◌}
-use Rattle.sets.specs.Rows.{tests_on, place_of, row_count}
+use Rattle.sets.specs.Rows.{NextRow, tests_on, row_count}
+use Rattle.sets.specs.declared.rows.Row.{Row}
 use Rattle.sets.proofs.Bits.{part_le}
-use Rattle.sets.proofs.Positions.{place_set, place_start, more_rows}
+use Rattle.sets.proofs.Positions.{place_set, place_start, place_end, more_rows}
 use Rattle.plans.specs.Questions.{Question, all_tests, size}
 use Rattle.plans.specs.Recurrence.{tries}
 use Rattle.plans.specs.Entries.{row_entry}
@@ -13,6 +14,8 @@ use Rattle.plans.specs.declared.entries.Entry.{Entry}
 use Rattle.plans.proofs.RowEntries.{tries_entry}
 use Rattle.plans.proofs.Whole.{all_tests_part}
 use Rattle.solver.specs.Held.{held, choice_of, priced, tries_by}
+use Rattle.solver.specs.Ordered.{row_steps}
+use Rattle.solver.specs.declared.ordered.Rows.{Rows}
 use Rattle.solver.specs.Solved.{Own, place, Solved}
 use Rattle.solver.proofs.Steps.{own_tables, held_before, solved_more}
 use Rattle.solver.proofs.Summing.{tries_before, tries_more}
@@ -51,23 +54,40 @@ module _ {P : Type 0} (m : Model P) (Q : Question) (p : ℕ) (prices₀ prices :
       let fewer : S < 2 ^ Q.count = omega (arith, part_le S R (own_tables Q R S o)) in
       omega (arith, right, tries_more m Q p R S o at few fewer)
 
--- The row that follows, where there is one.
-pub next_turn : (Q : Question) (T R S R' S' p rows : ℕ) → T ≡ all_tests Q → Q.count ≤ 10 → rows ≡ row_count Q.count (all_tests Q)
-    → Own Q R S → place Q R S ≡ p
-    → (S ⊆ tests_on T R → place_of T R S + 1 < row_count 10 T → (S' ⊆ tests_on T R') × (place_of T R' S' ≡ place_of T R S + 1))
-    → p + 1 < rows → Own Q R' S' × (place Q R' S' ≡ p + 1)
-next_turn Q T R S R' S' p rows e few all o at f l =
-    let g : S ⊆ tests_on (all_tests Q) R → place Q R S + 1 < row_count 10 (all_tests Q) → (S' ⊆ tests_on (all_tests Q) R') × (place Q R' S' ≡ place Q R S + 1) =
-    subst (λ (t : ℕ). S ⊆ tests_on t R → place_of t R S + 1 < row_count 10 t → (S' ⊆ tests_on t R') × (place_of t R' S' ≡ place_of t R S + 1)) e f in
-    let n = g o (omega (arith, at, all, more_rows Q.count 10 (all_tests Q) few (tests_below Q))) in
-    (n.0, omega (arith, n.1, at))
+-- It is the row's turn at place p.
+abbrev pub TurnAt : Question → (p : ℕ) → Row → Type 0
+TurnAt Q p row = Own Q row.tables.bits row.tests.bits × (place Q row.tables.bits row.tests.bits ≡ p)
 
-pub first_turn : (Q : Question) (R S : ℕ) → R ≡ 0 → S ≡ 0 → Own Q R S × (place Q R S ≡ 0)
-first_turn Q R S e f = (
-  subst (λ (s : ℕ). Own Q R s) (sym f) (and_zero_l (tests_on (all_tests Q) R)),
-  ap (λ (r : ℕ). place Q r S) e ∙ ap (place Q 0) f ∙ place_start (all_tests Q),
+pub first_turn : (Q : Question) (first : Option Row) → IsSomeAnd first (λ row. (row.tables.bits ≡ 0) × (row.tests.bits ≡ 0)) → IsSomeAnd first (TurnAt Q 0)
+first_turn Q None h = h
+first_turn Q (Some row) h = (
+  subst (λ (s : ℕ). Own Q row.tables.bits s) (sym h.1) (and_zero_l (tests_on (all_tests Q) row.tables.bits)),
+  ap (λ (r : ℕ). place Q r row.tests.bits) h.0 ∙ ap (place Q 0) h.1 ∙ place_start (all_tests Q),
 )
+
+pub this_turn : (Q : Question) (p : ℕ) (next : Option Row) (row : Row) → Some row ≡ next → IsSomeAnd next (TurnAt Q p) → TurnAt Q p row
+this_turn Q p next row e h = subst (λ (o : Option Row). IsSomeAnd o (TurnAt Q p)) (sym e) h
+
+-- The row that follows, where there is one.
+pub next_turn : (Q : Question) (row : Row) (s t : Rows) (p q rows : ℕ) → s.tested.bits ≡ all_tests Q → Q.count ≤ 10 → rows ≡ row_count Q.count (all_tests Q) → TurnAt Q p row → row_steps s (Some row) t
+    → q ≡ p + 1 → q < rows → IsSomeAnd t.next (TurnAt Q q)
+next_turn Q row s t p q rows e few all here step up more = go t.next
+    (subst (λ (T : ℕ). MatchOption t.next ((row.tables.bits ≡ 1023) × (row.tests.bits ≡ tests_on T row.tables.bits)) (λ n. NextRow T row.tables.bits row.tests.bits n.tables.bits n.tests.bits)) e step.2)
+  where
+    go : (o : Option Row) → MatchOption o ((row.tables.bits ≡ 1023) × (row.tests.bits ≡ tests_on (all_tests Q) row.tables.bits)) (λ n. NextRow (all_tests Q) row.tables.bits row.tests.bits n.tables.bits n.tests.bits)
+        → IsSomeAnd o (TurnAt Q q)
+    go None last =
+        let below : all_tests Q < 2 ^ 10 = omega (arith, e, s.tested.few) in
+        absurd (omega (arith, more, up, here.1, all, place_end 10 (all_tests Q) row.tables.bits row.tests.bits below (omega (arith, last.0)) last.1, more_rows Q.count 10 (all_tests Q) few (tests_below Q)))
+    go (Some n) h = (h.own, omega (arith, h.place here.0, here.1, up))
 
 pub solved_end : {P : Type 0} (m : Model P) (Q : Question) (p q : ℕ) (prices₀ prices : List P) (sizes₀ sizes choices₀ choices : List ℕ) → p ≡ q
     → Solved m Q p prices₀ prices sizes₀ sizes choices₀ choices → Solved m Q q prices₀ prices sizes₀ sizes choices₀ choices
 solved_end m Q p q prices₀ prices sizes₀ sizes choices₀ choices e = subst (λ (k : ℕ). Solved m Q k prices₀ prices sizes₀ sizes choices₀ choices) e
+
+-- Where no row comes, all have.
+pub all_turns : (Q : Question) (p rows : ℕ) (next : Option Row) → p ≤ rows → (p < rows → IsSomeAnd next (TurnAt Q p)) → None ≡ next → p ≡ rows
+all_turns Q p rows next l turn e = ⊎_elim
+    (λ less. absurd (subst (λ (o : Option Row). IsSomeAnd o (TurnAt Q p)) (sym e) (turn less)))
+    (λ all. omega (arith, l, all))
+    (cases_lt p rows)

@@ -1,5 +1,5 @@
 // The best of many candidates.
-ghost use Rattle.std.specs.Prelude.{◌≡◌, ◌+◌, ◌<◌, ◌≤◌, Some, List, is_some, if◌then◌else◌};
+ghost use Rattle.std.specs.Prelude.{◌≡◌, ◌+◌, ◌^◌, ◌<◌, ◌≤◌, Some, List, is_some, if◌then◌else◌};
 ghost use Rattle.plans.specs.Entries.{better as better_of};
 ghost use Rattle.solver.specs.Tries.{TriesEach};
 ghost use Rattle.std.specs.Iterator.{IsFinite, Yields, size};
@@ -34,7 +34,7 @@ fn with_candidate<M: PriceModel>(
     so_far: Tried<M::Price>,
     candidate: Option<Entry<M::Price>>,
 ) -> Tried<M::Price>
-    requires { so_far.tries < 1000000000 }
+    requires { so_far.tries + 1 < 2 ^ 64 }
     ensures best { result.best ≡ better_of (M.meaning model.now) so_far.best candidate }
     ensures tries { result.tries ≡ so_far.tries + (if is_some candidate then 1 else 0) }
 {
@@ -54,7 +54,7 @@ pub(crate) fn best_of<M: PriceModel, I: Iterator, F: Fn(I::Item) -> Option<Entry
     requires can { I.can_next items }
     requires ends { IsFinite (I.remaining items) }
     requires callable { (xs : List I.Item) (s t : I) (x : I.Item) → Yields I.next_gives items xs s → I.next_gives s (Some x) t → F.pre candidate x }
-    requires few { earlier.tries + size (I.remaining items) ≤ 2010 }
+    requires few { earlier.tries + size (I.remaining items) < 2 ^ 64 }
     ensures each { TriesEach (M.meaning model.now) (F.post candidate) I.next_gives items earlier result }
     ensures few { result.tries ≤ earlier.tries + size (I.remaining items) }
 {

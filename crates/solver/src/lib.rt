@@ -5,6 +5,7 @@ mod bests;
 mod candidates;
 mod left_sides;
 mod lists;
+mod ordered;
 mod rows;
 mod solutions;
 mod solving;

@@ -1,19 +1,19 @@
 // Fills the lists, row by row.
-ghost use Rattle.std.specs.Prelude.{◌≡◌, ◌+◌, ◌<◌, ◌≤◌, length, set as updated};
+ghost use Rattle.std.specs.Prelude.{◌≡◌, ◌<◌, ◌≤◌, length, set as updated};
 ghost use Rattle.catalogue.specs.Asked.{asked};
 ghost use Rattle.plans.specs.Entries.{row_entry};
 ghost use Rattle.plans.specs.Questions.{all_tests, size};
 ghost use Rattle.plans.specs.Recurrence.{all_tries};
-ghost use Rattle.sets.specs.Rows.{place_of, row_count, tests_on};
-ghost use Rattle.sets.specs.Sets.{◌⊆◌};
+ghost use Rattle.sets.specs.Rows.{row_count};
 ghost use Rattle.solver.specs.Held.{choice_of, held, priced, tries_by};
 ghost use Rattle.solver.specs.Solved.{Solved, Turn};
 
 use crate::lists::{RowTurn, Work};
+use crate::ordered::Rows;
 use catalogue::{Catalogue, Cuts};
 use plans::Entry;
 use pricing::PriceModel;
-use sets::{Places, Row, SmallSet, next_row};
+use sets::{Places, Row};
 
 // Writes the price of an entry at a place, if there is one.
 fn put_price<P: Copy>(prices: &mut [P], place: usize, entry: Option<Entry<P>>)
@@ -57,13 +57,6 @@ fn solve_row<M: PriceModel>(
     found.tries
 }
 
-// The row after a row, and after the very last the same again.
-fn following(row: Row, tested: SmallSet) -> Row
-    ensures { row.tests.bits ⊆ tests_on tested.bits row.tables.bits → place_of tested.bits row.tables.bits row.tests.bits + 1 < row_count 10 tested.bits → (result.tests.bits ⊆ tests_on tested.bits result.tables.bits) × (place_of tested.bits result.tables.bits result.tests.bits ≡ place_of tested.bits row.tables.bits row.tests.bits + 1) }
-{
-    next_row(row, tested).unwrap_or(row)
-}
-
 // Fills all rows, and answers the tries.
 fn fill_rows<M: PriceModel>(
     work: &Work<M>,
@@ -77,12 +70,10 @@ fn fill_rows<M: PriceModel>(
     ensures solved { Solved (M.meaning work.now.model.now) (asked work.now.catalogue.now) rows prices.old prices.new sizes.old sizes.new choices.old choices.new }
     ensures tries { result ≡ all_tries (M.meaning work.now.model.now) (asked work.now.catalogue.now) }
 {
-    let tested = work.catalogue.tests();
-    let mut row = Row::first();
+    let all_rows = Rows::all(work.catalogue.tests());
     let mut tries = 0;
-    for place in 0..rows as usize {
+    for (place, row) in (0..rows as usize).zip(all_rows) {
         tries += solve_row(work, row, place, prices, sizes, choices);
-        row = following(row, tested);
     }
     tries
 }

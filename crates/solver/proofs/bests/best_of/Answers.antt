@@ -7,7 +7,7 @@ use Rattle.solver.proofs.bests.best_of.Goals as goal
 pub with_candidate-so_far-requires : goal.with_candidate-so_far-requires
 with_candidate-so_far-requires g c =
     let same = ap (λ i. size (g.I.Iterator.remaining i)) c.into_iter-item-iterator.ensures.into_iter_gives in
-    omega (arith, c.requires.few, c.loop-item.invariant.3, same)
+    omega (arith, c.requires.few, c.loop-item.invariant.3, (c.in-Some.ensures.goes.on c.loop-item.invariant.1).2, same)
 
 pub loop-item-preserved : goal.loop-item-preserved
 loop-item-preserved g c =
