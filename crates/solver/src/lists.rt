@@ -44,9 +44,9 @@ pub(crate) struct Side<P> {
 pub(crate) fn price_at<P: Copy>(prices: &[P], choices: &[u16], place: usize) -> Option<P>
     ensures { result ≡ price_in (slice_get prices.now place) (slice_get choices.now place) }
 {
-    let price = *prices.get(place)?;
-    let choice = *choices.get(place)?;
-    if choice == 0 { None } else { Some(price) }
+    let price = prices.get(place)?;
+    let choice = choices.get(place)?;
+    if *choice == 0 { None } else { Some(*price) }
 }
 
 impl<'a, M: PriceModel> RowTurn<'a, M> {
