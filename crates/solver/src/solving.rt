@@ -31,16 +31,12 @@ fn whole<M: PriceModel>(
         tables: catalogue.tables(),
         tests: tested,
     };
-    let Some(price) = price_at(prices, choices, position(row, tested)) else {
-        return Err(SolveRefusal::NoPlan);
-    };
+    let price = price_at(prices, choices, position(row, tested)).ok_or(SolveRefusal::NoPlan)?;
     if model.past(price) {
         return Err(SolveRefusal::PastCount);
     }
     let mut bytes = [0; 58];
-    let Some(len) = read_off(choices, tested, row, &mut bytes) else {
-        return Err(SolveRefusal::NoPlan);
-    };
+    let len = read_off(choices, tested, row, &mut bytes).ok_or(SolveRefusal::NoPlan)?;
     Ok(Solution {
         bytes,
         len,
@@ -53,10 +49,7 @@ fn whole<M: PriceModel>(
 fn working_rows(catalogue: &Catalogue) -> u32
     ensures { result ≡ rows_of (asked catalogue.now) }
 {
-    match row_count(catalogue.count(), catalogue.tests()) {
-        Some(rows) => rows,
-        None => 0,
-    }
+    row_count(catalogue.count(), catalogue.tests()).unwrap_or(0)
 }
 
 // Whether no list has fewer entries than there are working rows.
