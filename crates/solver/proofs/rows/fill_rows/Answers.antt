@@ -32,17 +32,6 @@ loop-place-init g c =
       few = omega arith;
     }
 
-pub solve_row-tries-requires : goal.solve_row-tries-requires
-solve_row-tries-requires g c =
-    let Q = asked c.args.work.now.catalogue.now in
-    let i = c.loop-place.invariant in
-    let step = c.in-Some.ensures.steps in
-    let here = this_turn Q (zip_first c.loop-place.place-iterator).start _ c.in-Some.row step.1.0 (i.turn (omega (arith, step.0.1.0, i.end))) in
-    record {
-      turn = record { tested = c.args.work.now.tested; own = here.0; sized = λ R S own l. i.solved.sizes_are R S own (omega (arith, here.1, l)) };
-      room = (omega (arith, step.0.1, i.end), omega (arith, step.0.1, i.end), omega (arith, step.0.1, i.end));
-    }
-
 pub loop-place-preserved : goal.loop-place-preserved
 loop-place-preserved g c =
     let w = c.args.work.now in
@@ -73,8 +62,8 @@ loop-place-preserved g c =
       few = omega (arith, i.few, s.few, up);
     }
 
-pub returns : goal.returns
-returns g c =
+pub returns-clause-tries : goal.returns-clause-tries
+returns-clause-tries g c =
     let m = g.M.PriceModel.meaning c.args.work.now.model.now in
     let Q = asked c.args.work.now.catalogue.now in
     let i = c.loop-place.invariant in
@@ -83,7 +72,4 @@ returns g c =
     (λ none. omega (arith, none.1, i.end, i.within))
     (λ none. all_turns Q (zip_first it).start c.args.rows (zip_second it).next i.within i.turn none.1.0)
     c.in-None.ensures.steps in
-    record {
-      solved = solved_end m Q _ _ _ _ _ _ _ _ end i.solved;
-      tries = i.tried ∙ ap (tries_before m Q) (end ∙ c.requires.all) ∙ tries_all m Q (tests_below Q);
-    }
+    i.tried ∙ ap (tries_before m Q) (end ∙ c.requires.all) ∙ tries_all m Q (tests_below Q)
