@@ -8,4 +8,5 @@ pub mod Steps
 pub mod Summing
 pub mod Turns
 pub mod Wholes
+pub mod Joining
 pub mod Sides

@@ -1,5 +1,5 @@
 -- One turn of the loop over the rows.
-use Rattle.std.proofs.Common.{◌≡◌, ℕ, ◌+◌, ◌-◌, ◌^◌, ◌<◌, ◌≤◌, List, length, set, Some, None, Option, sym, refl, ap, ◌∙◌, subst, MatchOption, IsSomeAnd, ⊎_elim, arith, length-set, pow_pos}
+use Rattle.std.proofs.Common.{◌≡◌, ℕ, ◌+◌, ◌-◌, ◌^◌, ◌<◌, ◌≤◌, List, length, set, Some, None, Option, sym, refl, ap, ◌∙◌, subst, MatchOption, IsSomeAnd, ⊎_elim, arith, pow_pos}
 use lib.Bits.{and_zero_l}
 use Rattle.std.proofs.lemmas.Bool.{cases_lt}
 use Rattle.pricing.specs.Models.{Model}
@@ -22,10 +22,6 @@ use Rattle.solver.proofs.Summing.{tries_before, tries_more}
 
 pub tests_below : (Q : Question) → all_tests Q < 2 ^ Q.count
 tests_below Q = omega (arith, part_le (all_tests Q) (2 ^ Q.count - 1) (all_tests_part Q), pow_pos Q.count)
-
-pub length_priced : {P : Type 0} (prices : List P) (k : ℕ) (e : Option (Entry P)) → length (priced prices k e) ≡ length prices
-length_priced prices k None = refl
-length_priced prices k (Some e) = length-set prices k e.price
 
 module _ {P : Type 0} (m : Model P) (Q : Question) (p : ℕ) (prices₀ prices : List P) (sizes₀ sizes choices₀ choices : List ℕ) (R S : ℕ)
     (h : Solved m Q p prices₀ prices sizes₀ sizes choices₀ choices) (o : Own Q R S) (at : place Q R S ≡ p) where
