@@ -21,9 +21,10 @@ impl<'a, M: PriceModel> RowTurn<'a, M> {
         requires proper { (0 < left.bits) × (left.bits < self.now.row.tables.bits) }
         ensures { let w = self.now.work.now in result ≡ joining_entry (M.meaning w.model.now) (asked w.catalogue.now) (held self.now.prices.now self.now.choices.now w.places.now.tested.bits) self.now.row.tables.bits self.now.row.tests.bits left.bits }
     {
+        let work = self.work;
         let Row { tables, tests } = self.row;
         let right = tables.without(left);
-        if !self.work.cuts.linked(left, right) {
+        if !work.cuts.linked(left, right) {
             return None;
         }
         let a = self.side_at(Row {
@@ -34,10 +35,9 @@ impl<'a, M: PriceModel> RowTurn<'a, M> {
             tables: right,
             tests: tests.intersection(right),
         })?;
-        let costs = self.work.cuts.across(left, right);
+        let costs = work.cuts.across(left, right);
         Some(Entry {
-            price: self
-                .work
+            price: work
                 .model
                 .joined(a.price, b.price, a.size, b.size, size, costs),
             choice: 4096 + left.bits(),
@@ -48,21 +48,19 @@ impl<'a, M: PriceModel> RowTurn<'a, M> {
     fn test_candidate(&self, table: u8) -> Option<Entry<M::Price>>
         ensures { let w = self.now.work.now in result ≡ testing_entry (M.meaning w.model.now) (asked w.catalogue.now) (held self.now.prices.now self.now.choices.now w.places.now.tested.bits) self.now.row.tables.bits self.now.row.tests.bits table }
     {
+        let work = self.work;
         let Row { tables, tests } = self.row;
         if !tests.contains(table) {
             return None;
         }
-        let test = self.work.catalogue.test_of(table)?;
+        let test = work.catalogue.test_of(table)?;
         let below = self.side_at(Row {
             tables,
             tests: tests.without_member(table),
         })?;
-        let rows = self.work.catalogue.charged_rows(table, below.size);
+        let rows = work.catalogue.charged_rows(table, below.size);
         Some(Entry {
-            price: self
-                .work
-                .model
-                .tested(below.price, rows, test.cost, test.kind),
+            price: work.model.tested(below.price, rows, test.cost, test.kind),
             choice: 256 + table as u16,
         })
     }
@@ -71,13 +69,14 @@ impl<'a, M: PriceModel> RowTurn<'a, M> {
     fn table_candidate(&self, table: u8) -> Option<Entry<M::Price>>
         ensures { let w = self.now.work.now in result ≡ alone_entry (M.meaning w.model.now) (asked w.catalogue.now) self.now.row.tables.bits self.now.row.tests.bits table }
     {
+        let work = self.work;
         let Row { tables, tests } = self.row;
         let alone = SmallSet::single(table)?;
         if tables != alone || !tests.is_empty() {
             return None;
         }
         Some(Entry {
-            price: self.work.model.bare(self.work.catalogue.rows_of(table)),
+            price: work.model.bare(work.catalogue.rows_of(table)),
             choice: 1,
         })
     }
@@ -96,6 +95,7 @@ impl<'a, M: PriceModel> RowTurn<'a, M> {
             tries: 0,
         };
         let bare = best_of(model, none, 0..count, |table| self.table_candidate(table));
+        // A bare table is no try.
         let bare = Tried { tries: 0, ..bare };
         let joined = best_of(model, bare, LeftSides::of(self.row.tables), |left| {
             self.join_candidate(size, left)

@@ -64,19 +64,19 @@ impl<'a, M: PriceModel> RowTurn<'a, M> {
     pub(crate) fn size(&self) -> u32
         ensures { result ≡ size (asked self.now.work.now.catalogue.now) self.now.row.tables.bits self.now.row.tests.bits }
     {
+        let work = self.work;
         let Row { tables, tests } = self.row;
-        let catalogue = self.work.catalogue;
         let Some(table) = tables.lowest() else {
-            return catalogue.size(tables, tests);
+            return work.catalogue.size(tables, tests);
         };
         let others = tables.without_member(table);
         let rest = Row {
             tables: others,
             tests: tests.intersection(others),
         };
-        match self.sizes.get(self.work.places.position(rest)) {
-            Some(size) => catalogue.size_from(table, tables, tests, *size),
-            None => catalogue.size(tables, tests),
+        match self.sizes.get(work.places.position(rest)) {
+            Some(size) => work.catalogue.size_from(table, tables, tests, *size),
+            None => work.catalogue.size(tables, tests),
         }
     }
 }
