@@ -1,10 +1,12 @@
 pub mod Splitting
 pub mod Holding
 pub mod TriesMade
+pub mod Walks
 pub mod Undercut
 pub mod Nth
 pub mod Steps
 pub mod Summing
 pub mod Turns
 pub mod Wholes
+pub mod Joining
 pub mod Sides

@@ -1,5 +1,5 @@
 -- Places of a list of which one is set.
-use Rattle.std.proofs.Common.{◌≡◌, ℕ, zero, suc, ◌<◌, ◌≢◌, List, [], ◌∷◌, length, get_or, set, Some, refl, ap, le_of_suc-le-suc, not-suc-le-zero, arith}
+use Rattle.std.proofs.Common.{◌≡◌, ℕ, zero, suc, ◌<◌, ◌≢◌, List, [], ◌∷◌, length, set, Some, refl, ap, le_of_suc-le-suc, not-suc-le-zero}
 use Rattle.std.specs.List.{slice_get}
 
 pub nth_set_same : {X : Type 0} (xs : List X) (i : ℕ) (v : X) → i < length xs → slice_get (set xs i v) i ≡ Some v
@@ -13,8 +13,3 @@ nth_set_other (x ∷ xs) zero zero v h = absurd (h refl)
 nth_set_other (x ∷ xs) zero (suc j) v h = refl
 nth_set_other (x ∷ xs) (suc i) zero v h = refl
 nth_set_other (x ∷ xs) (suc i) (suc j) v h = nth_set_other xs i j v (λ e. h (ap suc e))
-
-pub nth_there : {X : Type 0} (xs : List X) (i : ℕ) (v d : X) → slice_get xs i ≡ Some v → get_or xs i d ≡ v
-nth_there [] i v d e = let z : ◌≡◌ {A = ℕ} 0 1 = cc in absurd (omega arith)
-nth_there (x ∷ xs) zero v d e = cc
-nth_there (x ∷ xs) (suc i) v d e = nth_there xs i v d e

@@ -1,8 +1,9 @@
 -- The parts of a candidate: rows before, of which the lists hold the plan's price and the size.
-use Rattle.std.proofs.Common.{◌≡◌, ℕ, ◌+◌, ◌-◌, ◌^◌, ◌<◌, ◌≤◌, Bool, true, false, List, Some, None, Option, sym, refl, ap, ◌∙◌, subst, ap₂, ⊎_elim, arith, pow_pos}
+use Rattle.std.proofs.Common.{◌≡◌, ℕ, ◌+◌, ◌-◌, ◌^◌, ◌<◌, ◌≤◌, Bool, true, false, List, Some, None, Option, sym, refl, ap, ◌∙◌, subst, ap₂, ⊎_elim, ◌&&◌, ◌==◌, arith, pow_pos}
 use lib.Bits.{bit_and, and_zero_l}
 use Rattle.std.specs.List.{slice_get}
-use Rattle.std.proofs.lemmas.Bool.{cases_eq}
+use Rattle.std.proofs.Math.Pow.{pow_mono}
+use Rattle.std.proofs.lemmas.Bool.{cases_eq, ne_eqb}
 use Rattle.pricing.specs.Models.{Model}
 use Rattle.sets.specs.Sets.{has, ◌⊆◌}
 use Rattle.sets.specs.Rows.{tests_on, place_of}
@@ -10,7 +11,7 @@ use Rattle.sets.proofs.Parts.{meet_part, meet_part_left, part_chain, without_par
 use Rattle.sets.proofs.Positions.{place_smaller, place_fewer}
 use Rattle.plans.specs.Questions.{Question, all_tests, size, charged, across}
 use Rattle.plans.specs.Recurrence.{splits}
-use Rattle.plans.specs.Entries.{join_entry, joining_entry, test_entry, testing_entry}
+use Rattle.plans.specs.Entries.{join_entry, alone_entry, joining_entry, test_entry, testing_entry}
 use Rattle.plans.specs.declared.entries.Entry.{Entry}
 use Rattle.plans.specs.declared.predicates.Test.{Test}
 use Rattle.solver.specs.Held.{side_of}
@@ -32,7 +33,7 @@ module _ (Q : Question) (T R S : ℕ) (sizes : List ℕ) (turn : Turn Q T R S si
       (place_smaller (all_tests Q) A R (bit_and S A) S l)
 
   -- and of one test fewer
-  pub test_sized : (i : ℕ) → has S i ≡ true → slice_get sizes (place_of T R (S - 2 ^ i)) ≡ Some (size Q R (S - 2 ^ i))
+  test_sized : (i : ℕ) → has S i ≡ true → slice_get sizes (place_of T R (S - 2 ^ i)) ≡ Some (size Q R (S - 2 ^ i))
   test_sized i h =
       let own : Own Q R (S - 2 ^ i) = part_chain (S - 2 ^ i) S (tests_on (all_tests Q) R) (without_part S i h) turn.own in
       at_place R (S - 2 ^ i) own (place_fewer (all_tests Q) R (S - 2 ^ i) S own turn.own (omega (arith, one_le S i h, pow_pos i)))
@@ -40,9 +41,20 @@ module _ (Q : Question) (T R S : ℕ) (sizes : List ℕ) (turn : Turn Q T R S si
 -- ---- what is read of a part
 
 -- by what the code has of the row
-pub side_as : {P : Type 0} (r : Option (Side P)) (table : ℕ → ℕ → Option (Entry P)) (sizes : List ℕ) (T A B A' B' n : ℕ) → A ≡ A' → B ≡ B' → slice_get sizes (place_of T A' B') ≡ Some n
+side_as : {P : Type 0} (r : Option (Side P)) (table : ℕ → ℕ → Option (Entry P)) (sizes : List ℕ) (T A B A' B' n : ℕ) → A ≡ A' → B ≡ B' → slice_get sizes (place_of T A' B') ≡ Some n
     → r ≡ side_of (table A B) (slice_get sizes (place_of T A B)) → r ≡ side_of (table A' B') (Some n)
 side_as r table sizes T A B A' B' n e f at h = h ∙ ap₂ (λ (x y : ℕ). side_of (table x y) (slice_get sizes (place_of T x y))) e f ∙ ap (side_of (table A' B')) at
+
+-- of the tables A, with their tests
+pub part_read : {P : Type 0} (r : Option (Side P)) (table : ℕ → ℕ → Option (Entry P)) (Q : Question) (T R S : ℕ) (sizes : List ℕ) → Turn Q T R S sizes → (A A' B' : ℕ) → A' ≡ A → B' ≡ bit_and S A' → A ⊆ R → A < R
+    → r ≡ side_of (table A' B') (slice_get sizes (place_of T A' B')) → r ≡ side_of (table A (bit_and S A)) (Some (size Q A (bit_and S A)))
+part_read r table Q T R S sizes turn A A' B' e f part less h =
+    side_as r table sizes T A' B' A (bit_and S A) (size Q A (bit_and S A)) e (f ∙ ap (bit_and S) e) (part_sized Q T R S sizes turn A part less) h
+
+-- of one test fewer
+pub test_read : {P : Type 0} (r : Option (Side P)) (table : ℕ → ℕ → Option (Entry P)) (Q : Question) (T R S : ℕ) (sizes : List ℕ) → Turn Q T R S sizes → (i S' : ℕ) → has S i ≡ true → S' ≡ S - 2 ^ i
+    → r ≡ side_of (table R S') (slice_get sizes (place_of T R S')) → r ≡ side_of (table R (S - 2 ^ i)) (Some (size Q R (S - 2 ^ i)))
+test_read r table Q T R S sizes turn i S' own e h = side_as r table sizes T R S' R (S - 2 ^ i) (size Q R (S - 2 ^ i)) refl e (test_sized Q T R S sizes turn i own) h
 
 -- the entry is there just where the side is
 none_of : {P : Type 0} (e : Option (Entry P)) (n : ℕ) → None ≡ side_of e (Some n) → e ≡ None
@@ -137,3 +149,9 @@ module _ {P : Type 0} (m : Model P) (Q : Question) (table : ℕ → ℕ → Opti
       let paid = charge x.3 in
       let price : m.tested a.price rows t.cost t.kind ≡ m.tested x.0.price (charged Q i R (S - 2 ^ i)) t.cost t.kind = cc in
       (cc) ∙ sym (made ∙ ap₂ (test_entry m Q R S i) (sym given) x.1)
+
+-- ---- a bare table
+
+pub not_alone : {P : Type 0} (m : Model P) (Q : Question) (R S i : ℕ) → R < 1024 → 10 ≤ i → None ≡ alone_entry m Q R S i
+not_alone m Q R S i few far =
+    ap (λ (b : Bool). elim (b && (S == 0)) [ true ↦ Some (record { price = m.bare (Q.rows i); choice = 1 }) | false ↦ None ]) (sym (ne_eqb R (2 ^ i) (λ e. absurd (omega (arith, e, pow_mono far)))))

@@ -1,9 +1,9 @@
 -- The whole question's plan, from rows that are filled.
-use Rattle.std.proofs.Common.{◌≡◌, ℕ, ◌^◌, ◌<◌, ◌≤◌, Bool, true, false, cond, List, length, get_or, take, drop, Some, None, Ok, Err, Option, sym, refl, ap, ◌∙◌, subst, ap₂, arith, take_at, pow_pos}
+use Rattle.std.proofs.Common.{◌≡◌, ℕ, ◌^◌, ◌<◌, ◌≤◌, Bool, true, false, cond, List, length, take, drop, Some, None, Ok, Err, Option, Result, IsErrAnd, sym, refl, ap, ◌∙◌, subst, ap₂, arith, take_at, pow_pos}
 use lib.Bits.{and_self}
 use Rattle.std.specs.List.{slice_get}
-use Rattle.std.proofs.lemmas.Option.{slice_get-get_or, slice_get_past}
-use Rattle.std.proofs.lemmas.Bool.{ne_eqb}
+use Rattle.std.specs.Option.{ok_or}
+use Rattle.std.proofs.lemmas.Option.{get_or_from_slice_get}
 use Rattle.pricing.specs.Models.{Model}
 use Rattle.sets.specs.Rows.{place_of}
 use Rattle.sets.proofs.Positions.{place_lt}
@@ -22,36 +22,10 @@ use Rattle.solver.specs.Held.{price_at}
 use Rattle.solver.specs.Solved.{Own, place}
 use Rattle.solver.specs.Solves.{rows_of, Readable, whole_plan, Answers}
 use Rattle.solver.specs.declared.solutions.Solution.{Solution}
+use Rattle.solver.specs.declared.solutions.SolveRefusal.{SolveRefusal}
 use Rattle.solver.specs.declared.solutions.SolveRefusal.TheVariants.{NoPlan, PastCount}
-use Rattle.solver.proofs.Nth.{nth_there}
 use Rattle.solver.proofs.Steps.{own_by, some_code}
 use Rattle.solver.proofs.Turns.{tests_below}
-
--- ---- the price at a place
-
-module _ {P : Type 0} (prices : List P) (choices : List ℕ) (k : ℕ) where
-  pub price_past : length prices ≤ k → None ≡ price_at (slice_get prices k) (slice_get choices k)
-  price_past l = ap (λ (o : Option P). price_at o (slice_get choices k)) (sym (slice_get_past prices k l))
-
-  lost : (o : Option P) → None ≡ price_at o None
-  lost None = refl
-  lost (Some v) = refl
-
-  pub choice_past : length choices ≤ k → None ≡ price_at (slice_get prices k) (slice_get choices k)
-  choice_past l = lost (slice_get prices k) ∙ ap (price_at (slice_get prices k)) (sym (slice_get_past choices k l))
-
-  there : (v : P) → k < length prices → k < length choices → v ≡ get_or prices k v → price_at (Some v) (Some (get_or choices k 0)) ≡ price_at (slice_get prices k) (slice_get choices k)
-  there v l n e = ap₂ price_at (ap Some e ∙ sym (slice_get-get_or prices k v l)) (sym (slice_get-get_or choices k 0 n))
-
-  pub choice_none : k < length choices → get_or choices k 0 ≡ 0 → None ≡ price_at (slice_get prices k) (slice_get choices k)
-  choice_none n z = zero_choice (slice_get prices k) ∙ ap (price_at (slice_get prices k)) (ap Some (sym z) ∙ sym (slice_get-get_or choices k 0 n))
-    where
-      zero_choice : (o : Option P) → None ≡ price_at o (Some 0)
-      zero_choice None = refl
-      zero_choice (Some v) = refl
-
-  pub price_there : (v : P) → k < length prices → k < length choices → v ≡ get_or prices k v → (get_or choices k 0 ≡ 0 → ⊥) → Some v ≡ price_at (slice_get prices k) (slice_get choices k)
-  price_there v l n e ne = ap (λ (b : Bool). cond b None (Some v)) (sym (ne_eqb (get_or choices k 0) 0 ne)) ∙ there v l n e
 
 -- ---- the whole question
 
@@ -88,7 +62,7 @@ module _ {P : Type 0} (m : Model P) (Q : Question) (prices : List P) (choices : 
   leads : (p : Plan) → opt m Q (all_tables Q) (all_tests Q) ≡ Some p → Leads (choice_in choices (all_tests Q)) (all_tables Q) (all_tests Q) p
   leads p e =
       plans_led_to m Q (choice_in choices (all_tests Q))
-      (λ r s row. nth_there choices (place Q r s) (code (opt m Q r s)) 0
+      (λ r s row. get_or_from_slice_get choices (place Q r s) (code (opt m Q r s)) 0
       (h.choices_are r s (own_by Q r s row.own row.tests) (place_lt Q.count (all_tests Q) r s (tests_below Q) row.given)))
       (all_tables Q) (all_tests Q) p (record { given = full_given; own = all_tests_part Q; tests = and_self (all_tests Q) }) e
 
@@ -155,3 +129,11 @@ pub full_written : (Q : Question) (choices before after : List ℕ) (answer : Op
     → (p : Plan) → Leads (choice_in choices (all_tests Q)) (all_tables Q) (all_tests Q) p → length (spelled p) ≤ length before → Front p before after answer
 full_written Q choices before after answer T R e f w p l =
     w p (subst (λ (r : ℕ). Leads (choice_in choices T) r T p) (sym f) (subst (λ (t : ℕ). Leads (choice_in choices t) (all_tables Q) t p) (sym e) l))
+
+-- What `?` hands on where there was nothing.
+pub no_plan : {A B : Type 0} (r : Result A SolveRefusal) (e : SolveRefusal) (o : Option B) → IsErrAnd r (λ x. x ≡ e) → ◌≡◌ {A = Result B SolveRefusal} (Err e) (ok_or o NoPlan) → o ≡ None → r ≡ Err NoPlan
+no_plan (Ok a) e o h v none = absurd h
+no_plan {B = B} (Err x) e o h v none =
+    let w : ◌≡◌ {A = Result B SolveRefusal} (Err e) (Err NoPlan) = v ∙ ap (λ (p : Option B). ok_or p NoPlan) none in
+    let s : e ≡ NoPlan = cc in
+    ap Err (h ∙ s)

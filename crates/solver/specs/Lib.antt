@@ -1,3 +1,5 @@
 pub mod Held
+pub mod Ordered
 pub mod Solved
 pub mod Solves
+pub mod Tries

@@ -1,249 +1,105 @@
 // The candidates of a row, and the best of them.
-ghost use Rattle.std.specs.Prelude.{◌≡◌, ◌+◌, ◌-◌, ◌<◌, ◌≤◌, is_some, if◌then◌else◌, None};
+ghost use Rattle.std.specs.Prelude.{◌≡◌, ◌-◌, ◌<◌, ◌≤◌};
 ghost use Rattle.catalogue.specs.Asked.{asked};
-ghost use Rattle.plans.specs.Entries.{alone_entry, best_entry, better as better_of, joining_entry, row_entry as entry_by, testing_entry};
+ghost use Rattle.plans.specs.Entries.{alone_entry, joining_entry, row_entry, testing_entry};
 ghost use Rattle.plans.specs.Questions.{size as size_of_set};
-ghost use Rattle.plans.specs.Recurrence.{found};
 ghost use Rattle.sets.specs.Sets.{◌⊆◌};
 ghost use Rattle.solver.specs.Held.{held, tries_by};
-ghost use Rattle.solver.specs.Solved.{Turn};
 
-use crate::lists::{Lists, side_at};
-use catalogue::{Catalogue, Cuts};
+use crate::bests::{Tried, best_of};
+use crate::left_sides::LeftSides;
+use crate::lists::RowTurn;
 use plans::Entry;
 use pricing::PriceModel;
 use sets::{Row, SmallSet};
 
-// The best entry so far, and how many candidates were there.
-#[derive(Clone, Copy)]
-pub(crate) struct Tried<P> {
-    pub best: Option<Entry<P>>,
-    pub tries: u64,
-}
-
-// The later entry only if it is cheaper.
-fn better<M: PriceModel>(
-    model: &M,
-    earlier: Option<Entry<M::Price>>,
-    later: Option<Entry<M::Price>>,
-) -> Option<Entry<M::Price>>
-    ensures { result ≡ better_of (M.meaning model.now) earlier later }
-{
-    match (earlier, later) {
-        (None, entry) => entry,
-        (Some(a), None) => Some(a),
-        (Some(a), Some(b)) => {
-            if model.at_most(a.price, b.price) {
-                Some(a)
-            } else {
-                Some(b)
-            }
+impl<'a, M: PriceModel> RowTurn<'a, M> {
+    // The join of the left tables with the others, if both sides have plans and a tie links them; `size` is that of the row.
+    fn join_candidate(&self, size: u32, left: SmallSet) -> Option<Entry<M::Price>>
+        requires sized { size ≡ size_of_set (asked self.now.work.now.catalogue.now) self.now.row.tables.bits self.now.row.tests.bits }
+        requires part { left.bits ⊆ self.now.row.tables.bits }
+        requires proper { (0 < left.bits) × (left.bits < self.now.row.tables.bits) }
+        ensures { let w = self.now.work.now in result ≡ joining_entry (M.meaning w.model.now) (asked w.catalogue.now) (held self.now.prices.now self.now.choices.now w.places.now.tested.bits) self.now.row.tables.bits self.now.row.tests.bits left.bits }
+    {
+        let work = self.work;
+        let Row { tables, tests } = self.row;
+        let right = tables.without(left);
+        if !work.cuts.linked(left, right) {
+            return None;
         }
+        let a = self.side_at(Row {
+            tables: left,
+            tests: tests.intersection(left),
+        })?;
+        let b = self.side_at(Row {
+            tables: right,
+            tests: tests.intersection(right),
+        })?;
+        let costs = work.cuts.across(left, right);
+        Some(Entry {
+            price: work
+                .model
+                .joined(a.price, b.price, a.size, b.size, size, costs),
+            choice: 4096 + left.bits(),
+        })
     }
-}
 
-// The other side of the tables, of which the left are some.
-fn other_side(tables: SmallSet, left: SmallSet) -> SmallSet
-    requires { left.bits ⊆ tables.bits }
-    ensures { result.bits ≡ tables.bits - left.bits }
-{
-    tables.without(left)
-}
-
-// The join of the left tables with the others, if both sides have plans and a tie links them; `size` is that of the row.
-fn join_candidate<M: PriceModel>(
-    model: &M,
-    cuts: &Cuts,
-    lists: &Lists<M::Price>,
-    row: Row,
-    size: u32,
-    left: SmallSet,
-) -> Option<Entry<M::Price>>
-    requires turn { Turn (asked cuts.now.catalogue.now) lists.now.places.now.tested.bits row.tables.bits row.tests.bits lists.now.sizes.now }
-    requires sized { size ≡ size_of_set (asked cuts.now.catalogue.now) row.tables.bits row.tests.bits }
-    requires part { left.bits ⊆ row.tables.bits }
-    requires proper { (0 < left.bits) × (left.bits < row.tables.bits) }
-    ensures { result ≡ joining_entry (M.meaning model.now) (asked cuts.now.catalogue.now) (held lists.now.prices.now lists.now.choices.now lists.now.places.now.tested.bits) row.tables.bits row.tests.bits left.bits }
-{
-    let right = other_side(row.tables, left);
-    if !cuts.linked(left, right) {
-        return None;
+    // The test of a table on top, if it is one of the row's and what is below has a plan.
+    fn test_candidate(&self, table: u8) -> Option<Entry<M::Price>>
+        ensures { let w = self.now.work.now in result ≡ testing_entry (M.meaning w.model.now) (asked w.catalogue.now) (held self.now.prices.now self.now.choices.now w.places.now.tested.bits) self.now.row.tables.bits self.now.row.tests.bits table }
+    {
+        let work = self.work;
+        let Row { tables, tests } = self.row;
+        if !tests.contains(table) {
+            return None;
+        }
+        let test = work.catalogue.test_of(table)?;
+        let below = self.side_at(Row {
+            tables,
+            tests: tests.without_member(table),
+        })?;
+        let rows = work.catalogue.charged_rows(table, below.size);
+        Some(Entry {
+            price: work.model.tested(below.price, rows, test.cost, test.kind),
+            choice: 256 + table as u16,
+        })
     }
-    let left_row = Row {
-        tables: left,
-        tests: row.tests.intersection(left),
-    };
-    let right_row = Row {
-        tables: right,
-        tests: row.tests.intersection(right),
-    };
-    let Some(a) = side_at(lists, left_row) else {
-        return None;
-    };
-    let Some(b) = side_at(lists, right_row) else {
-        return None;
-    };
-    let costs = cuts.across(left, right);
-    Some(Entry {
-        price: model.joined(a.price, b.price, a.size, b.size, size, costs),
-        choice: 4096 + left.bits(),
-    })
-}
 
-// The test of a table on top, if it is one of the row's and what is below has a plan.
-fn test_candidate<M: PriceModel>(
-    model: &M,
-    catalogue: &Catalogue,
-    lists: &Lists<M::Price>,
-    row: Row,
-    table: u8,
-) -> Option<Entry<M::Price>>
-    requires { Turn (asked catalogue.now) lists.now.places.now.tested.bits row.tables.bits row.tests.bits lists.now.sizes.now }
-    ensures { result ≡ testing_entry (M.meaning model.now) (asked catalogue.now) (held lists.now.prices.now lists.now.choices.now lists.now.places.now.tested.bits) row.tables.bits row.tests.bits table }
-{
-    if !row.tests.contains(table) {
-        return None;
+    // A bare table, if it is the row's only one and the row has no tests.
+    fn table_candidate(&self, table: u8) -> Option<Entry<M::Price>>
+        ensures { let w = self.now.work.now in result ≡ alone_entry (M.meaning w.model.now) (asked w.catalogue.now) self.now.row.tables.bits self.now.row.tests.bits table }
+    {
+        let work = self.work;
+        let Row { tables, tests } = self.row;
+        let alone = SmallSet::single(table)?;
+        if tables != alone || !tests.is_empty() {
+            return None;
+        }
+        Some(Entry {
+            price: work.model.bare(work.catalogue.rows_of(table)),
+            choice: 1,
+        })
     }
-    let Some(test) = catalogue.test_of(table) else {
-        return None;
-    };
-    let below = Row {
-        tables: row.tables,
-        tests: row.tests.without_member(table),
-    };
-    let Some(a) = side_at(lists, below) else {
-        return None;
-    };
-    let rows = catalogue.charged_rows(table, a.size);
-    Some(Entry {
-        price: model.tested(a.price, rows, test.cost, test.kind),
-        choice: 256 + table as u16,
-    })
-}
 
-// A bare table, if it is the row's only one and the row has no tests.
-fn table_candidate<M: PriceModel>(
-    model: &M,
-    catalogue: &Catalogue,
-    row: Row,
-    table: u8,
-) -> Option<Entry<M::Price>>
-    requires { table < 10 }
-    ensures { result ≡ alone_entry (M.meaning model.now) (asked catalogue.now) row.tables.bits row.tests.bits table }
-{
-    let Some(alone) = SmallSet::single(table) else {
-        return None;
-    };
-    if row.tables.bits() != alone.bits() {
-        return None;
+    // The entry of the row, which has the size, from those of the rows before it.
+    pub(crate) fn entry(&self, size: u32) -> Tried<M::Price>
+        requires { size ≡ size_of_set (asked self.now.work.now.catalogue.now) self.now.row.tables.bits self.now.row.tests.bits }
+        ensures best { let w = self.now.work.now in result.best ≡ row_entry (M.meaning w.model.now) (asked w.catalogue.now) (held self.now.prices.now self.now.choices.now w.places.now.tested.bits) self.now.row.tables.bits self.now.row.tests.bits }
+        ensures tries { let w = self.now.work.now in result.tries ≡ tries_by (M.meaning w.model.now) (asked w.catalogue.now) (held self.now.prices.now self.now.choices.now w.places.now.tested.bits) self.now.row.tables.bits self.now.row.tests.bits }
+        ensures few { result.tries ≤ 2010 }
+    {
+        let model = self.work.model;
+        let count = self.work.catalogue.count();
+        let none = Tried {
+            best: None,
+            tries: 0,
+        };
+        let bare = best_of(model, none, 0..count, |table| self.table_candidate(table));
+        // A bare table is no try.
+        let bare = Tried { tries: 0, ..bare };
+        let joined = best_of(model, bare, LeftSides::of(self.row.tables), |left| {
+            self.join_candidate(size, left)
+        });
+        best_of(model, joined, 0..count, |table| self.test_candidate(table))
     }
-    if row.tests.bits() != 0 {
-        return None;
-    }
-    Some(Entry {
-        price: model.bare(catalogue.rows_of(table)),
-        choice: 1,
-    })
-}
-
-// One candidate more.
-fn with_candidate<M: PriceModel>(
-    model: &M,
-    so_far: Tried<M::Price>,
-    candidate: Option<Entry<M::Price>>,
-) -> Tried<M::Price>
-    requires { so_far.tries < 1000000000 }
-    ensures best { result.best ≡ better_of (M.meaning model.now) so_far.best candidate }
-    ensures tries { result.tries ≡ so_far.tries + (if is_some candidate then 1 else 0) }
-{
-    let more = if candidate.is_some() { 1 } else { 0 };
-    Tried {
-        best: better(model, so_far.best, candidate),
-        tries: so_far.tries + more,
-    }
-}
-
-// The best of the joins after an earlier entry, by ascending left set.
-fn best_join<M: PriceModel>(
-    model: &M,
-    cuts: &Cuts,
-    lists: &Lists<M::Price>,
-    row: Row,
-    size: u32,
-    earlier: Tried<M::Price>,
-) -> Tried<M::Price>
-    requires turn { Turn (asked cuts.now.catalogue.now) lists.now.places.now.tested.bits row.tables.bits row.tests.bits lists.now.sizes.now }
-    requires sized { size ≡ size_of_set (asked cuts.now.catalogue.now) row.tables.bits row.tests.bits }
-    requires few { earlier.tries ≤ 10 }
-    ensures best { result.best ≡ best_entry (M.meaning model.now) earlier.best (joining_entry (M.meaning model.now) (asked cuts.now.catalogue.now) (held lists.now.prices.now lists.now.choices.now lists.now.places.now.tested.bits) row.tables.bits row.tests.bits) row.tables.bits }
-    ensures tries { result.tries ≡ earlier.tries + found (joining_entry (M.meaning model.now) (asked cuts.now.catalogue.now) (held lists.now.prices.now lists.now.choices.now lists.now.places.now.tested.bits) row.tables.bits row.tests.bits) row.tables.bits }
-    ensures few { result.tries ≤ 2000 }
-{
-    let tables = row.tables;
-    let mut so_far = earlier;
-    let mut left = SmallSet::empty().next_subset(tables);
-    while left.bits() < tables.bits() {
-        let candidate = join_candidate(model, cuts, lists, row, size, left);
-        so_far = with_candidate(model, so_far, candidate);
-        left = left.next_subset(tables);
-    }
-    so_far
-}
-
-// The best of the tests after an earlier entry, by ascending table.
-fn best_test<M: PriceModel>(
-    model: &M,
-    catalogue: &Catalogue,
-    lists: &Lists<M::Price>,
-    row: Row,
-    earlier: Tried<M::Price>,
-) -> Tried<M::Price>
-    requires turn { Turn (asked catalogue.now) lists.now.places.now.tested.bits row.tables.bits row.tests.bits lists.now.sizes.now }
-    requires few { earlier.tries ≤ 2000 }
-    ensures best { result.best ≡ best_entry (M.meaning model.now) earlier.best (testing_entry (M.meaning model.now) (asked catalogue.now) (held lists.now.prices.now lists.now.choices.now lists.now.places.now.tested.bits) row.tables.bits row.tests.bits) (asked catalogue.now).count }
-    ensures tries { result.tries ≡ earlier.tries + found (testing_entry (M.meaning model.now) (asked catalogue.now) (held lists.now.prices.now lists.now.choices.now lists.now.places.now.tested.bits) row.tables.bits row.tests.bits) (asked catalogue.now).count }
-    ensures few { result.tries ≤ 2010 }
-{
-    let mut so_far = earlier;
-    for table in 0..catalogue.count() {
-        let candidate = test_candidate(model, catalogue, lists, row, table);
-        so_far = with_candidate(model, so_far, candidate);
-    }
-    so_far
-}
-
-// A bare table, if the row is one.
-fn bare_table<M: PriceModel>(model: &M, catalogue: &Catalogue, row: Row) -> Option<Entry<M::Price>>
-    ensures { result ≡ best_entry (M.meaning model.now) None (alone_entry (M.meaning model.now) (asked catalogue.now) row.tables.bits row.tests.bits) (asked catalogue.now).count }
-{
-    let mut best = None;
-    for table in 0..catalogue.count() {
-        let candidate = table_candidate(model, catalogue, row, table);
-        best = better(model, best, candidate);
-    }
-    best
-}
-
-// The entry of a row, from those of the rows before it.
-pub(crate) fn row_entry<M: PriceModel>(
-    model: &M,
-    catalogue: &Catalogue,
-    cuts: &Cuts,
-    lists: &Lists<M::Price>,
-    row: Row,
-    size: u32,
-) -> Tried<M::Price>
-    requires cuts { cuts.now.catalogue.now ≡ catalogue.now }
-    requires turn { Turn (asked catalogue.now) lists.now.places.now.tested.bits row.tables.bits row.tests.bits lists.now.sizes.now }
-    requires sized { size ≡ size_of_set (asked catalogue.now) row.tables.bits row.tests.bits }
-    ensures best { result.best ≡ entry_by (M.meaning model.now) (asked catalogue.now) (held lists.now.prices.now lists.now.choices.now lists.now.places.now.tested.bits) row.tables.bits row.tests.bits }
-    ensures tries { result.tries ≡ tries_by (M.meaning model.now) (asked catalogue.now) (held lists.now.prices.now lists.now.choices.now lists.now.places.now.tested.bits) row.tables.bits row.tests.bits }
-    ensures few { result.tries ≤ 2010 }
-{
-    let bare = Tried {
-        best: bare_table(model, catalogue, row),
-        tries: 0,
-    };
-    let joined = best_join(model, cuts, lists, row, size, bare);
-    best_test(model, catalogue, lists, row, joined)
 }

@@ -1,22 +1,36 @@
-// The lists as the rows before a row have filled them.
+// The turn of a row, and what the lists hold of the rows before it.
 ghost use Rattle.std.specs.Prelude.{◌≡◌};
 ghost use Rattle.catalogue.specs.Asked.{asked};
-ghost use Rattle.plans.specs.Questions.{size};
+ghost use Rattle.plans.specs.Questions.{all_tests, size};
 ghost use Rattle.sets.specs.Rows.{place_of};
-ghost use Rattle.solver.specs.Held.{held, side_of};
+ghost use Rattle.solver.specs.Held.{held, price_at as price_in, side_of};
 ghost use Rattle.solver.specs.Solved.{Turn};
 ghost use Rattle.std.specs.List.{slice_get};
 
-use catalogue::Catalogue;
+use catalogue::{Catalogue, Cuts};
+use pricing::PriceModel;
 use sets::{Places, Row};
 
-// The three lists, with an entry for each row at its place.
+// A model and a question, with the cuts of the question's tables and the places of its rows.
 #[derive(Drop)]
-pub(crate) struct Lists<'a, P> {
+pub(crate) struct Work<'a, M: PriceModel> {
+    pub model: &'a M,
+    pub catalogue: &'a Catalogue,
+    pub cuts: &'a Cuts<'a>,
     pub places: &'a Places,
-    pub prices: &'a [P],
+    ghost same: { cuts.now.catalogue.now ≡ catalogue.now },
+    ghost tested: { places.now.tested.bits ≡ all_tests (asked catalogue.now) },
+}
+
+// The turn of a row: the lists hold the rows before it, each at its place.
+#[derive(Drop)]
+pub(crate) struct RowTurn<'a, M: PriceModel> {
+    pub work: &'a Work<'a, M>,
+    pub prices: &'a [M::Price],
     pub sizes: &'a [u32],
     pub choices: &'a [u16],
+    pub row: Row,
+    ghost turn: { Turn (asked work.now.catalogue.now) work.now.places.now.tested.bits row.tables.bits row.tests.bits sizes.now },
 }
 
 // The price of a row's plan, and the row's size.
@@ -26,42 +40,43 @@ pub(crate) struct Side<P> {
     pub size: u32,
 }
 
-// What the lists hold of a row that has a plan.
-pub(crate) fn side_at<P: Copy>(lists: &Lists<P>, row: Row) -> Option<Side<P>>
-    ensures { result ≡ side_of (held lists.now.prices.now lists.now.choices.now lists.now.places.now.tested.bits row.tables.bits row.tests.bits) (slice_get lists.now.sizes.now (place_of lists.now.places.now.tested.bits row.tables.bits row.tests.bits)) }
+// The price at a place, if there is a choice beside it.
+pub(crate) fn price_at<P: Copy>(prices: &[P], choices: &[u16], place: usize) -> Option<P>
+    ensures { result ≡ price_in (slice_get prices.now place) (slice_get choices.now place) }
 {
-    let place = lists.places.position(row);
-    let prices: &[P] = lists.prices;
-    let sizes: &[u32] = lists.sizes;
-    let choices: &[u16] = lists.choices;
-    if place >= prices.len() || place >= sizes.len() || place >= choices.len() {
-        return None;
-    }
-    if choices[place] == 0 {
-        return None;
-    }
-    Some(Side {
-        price: prices[place],
-        size: sizes[place],
-    })
+    let price = prices.get(place)?;
+    let choice = choices.get(place)?;
+    if *choice == 0 { None } else { Some(*price) }
 }
 
-// The size of a row, from that of all its tables but the lowest.
-pub(crate) fn row_size<P: Copy>(catalogue: &Catalogue, lists: &Lists<P>, row: Row) -> u32
-    requires { Turn (asked catalogue.now) lists.now.places.now.tested.bits row.tables.bits row.tests.bits lists.now.sizes.now }
-    ensures { result ≡ size (asked catalogue.now) row.tables.bits row.tests.bits }
-{
-    let Some(table) = row.tables.lowest() else {
-        return catalogue.size(row.tables, row.tests);
-    };
-    let tables = row.tables.without_member(table);
-    let rest = Row {
-        tables,
-        tests: row.tests.intersection(tables),
-    };
-    let place = lists.places.position(rest);
-    if place >= lists.sizes.len() {
-        return catalogue.size(row.tables, row.tests);
+impl<'a, M: PriceModel> RowTurn<'a, M> {
+    // What the lists hold of a row that has a plan.
+    pub(crate) fn side_at(&self, row: Row) -> Option<Side<M::Price>>
+        ensures { let w = self.now.work.now in result ≡ side_of (held self.now.prices.now self.now.choices.now w.places.now.tested.bits row.tables.bits row.tests.bits) (slice_get self.now.sizes.now (place_of w.places.now.tested.bits row.tables.bits row.tests.bits)) }
+    {
+        let place = self.work.places.position(row);
+        let price = price_at(self.prices, self.choices, place)?;
+        let size = *self.sizes.get(place)?;
+        Some(Side { price, size })
     }
-    catalogue.size_from(table, row.tables, row.tests, lists.sizes[place])
+
+    // The size of the row, from that of all its tables but the lowest.
+    pub(crate) fn size(&self) -> u32
+        ensures { result ≡ size (asked self.now.work.now.catalogue.now) self.now.row.tables.bits self.now.row.tests.bits }
+    {
+        let work = self.work;
+        let Row { tables, tests } = self.row;
+        let Some(table) = tables.lowest() else {
+            return work.catalogue.size(tables, tests);
+        };
+        let others = tables.without_member(table);
+        let rest = Row {
+            tables: others,
+            tests: tests.intersection(others),
+        };
+        match self.sizes.get(work.places.position(rest)) {
+            Some(size) => work.catalogue.size_from(table, tables, tests, *size),
+            None => work.catalogue.size(tables, tests),
+        }
+    }
 }

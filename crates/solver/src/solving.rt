@@ -3,47 +3,16 @@ ghost use Rattle.std.specs.Prelude.{◌≡◌, ◌≤◌, ◌&&◌, length, nat_
 ghost use Rattle.catalogue.specs.Asked.{asked};
 ghost use Rattle.plans.specs.Questions.{all_tables, all_tests};
 ghost use Rattle.plans.specs.Recurrence.{all_tries, opt};
-ghost use Rattle.solver.specs.Held.{price_at as price_in};
 ghost use Rattle.solver.specs.Solved.{Solved};
-ghost use Rattle.std.specs.List.{slice_get};
-ghost use Rattle.solver.specs.Solves.{Answers, Cheapest, Lists, Readable, enough, filled, outcome, rows_of, solve_number, whole_plan};
+ghost use Rattle.solver.specs.Solves.{Answers, Cheapest, Lists, Readable, enough, filled, outcome, rows_of, whole_plan};
 
+use crate::lists::price_at;
 use crate::rows::solve_rows;
 use crate::{Solution, SolveRefusal};
 use catalogue::Catalogue;
 use pricing::PriceModel;
 use readoff::read_off;
 use sets::{Row, position, row_count};
-
-impl SolveRefusal {
-    // The refusal's number, 11 to 14.
-    pub fn number(self) -> u8
-        ensures { result ≡ solve_number self }
-    {
-        match self {
-            SolveRefusal::NoTables => 11,
-            SolveRefusal::ListTooShort => 12,
-            SolveRefusal::NoPlan => 13,
-            SolveRefusal::PastCount => 14,
-        }
-    }
-}
-
-// The price at a place, if there is a choice beside it.
-fn price_at<P: Copy>(prices: &[P], choices: &[u16], place: usize) -> Option<P>
-    ensures { result ≡ price_in (slice_get prices.now place) (slice_get choices.now place) }
-{
-    if place >= prices.len() {
-        return None;
-    }
-    if place >= choices.len() {
-        return None;
-    }
-    if choices[place] == 0 {
-        return None;
-    }
-    Some(prices[place])
-}
 
 // Reads the whole question's plan off rows that are filled.
 fn whole<M: PriceModel>(
@@ -62,16 +31,12 @@ fn whole<M: PriceModel>(
         tables: catalogue.tables(),
         tests: tested,
     };
-    let Some(price) = price_at(prices, choices, position(row, tested)) else {
-        return Err(SolveRefusal::NoPlan);
-    };
+    let price = price_at(prices, choices, position(row, tested)).ok_or(SolveRefusal::NoPlan)?;
     if model.past(price) {
         return Err(SolveRefusal::PastCount);
     }
     let mut bytes = [0; 58];
-    let Some(len) = read_off(choices, tested, row, &mut bytes) else {
-        return Err(SolveRefusal::NoPlan);
-    };
+    let len = read_off(choices, tested, row, &mut bytes).ok_or(SolveRefusal::NoPlan)?;
     Ok(Solution {
         bytes,
         len,
@@ -84,10 +49,7 @@ fn whole<M: PriceModel>(
 fn working_rows(catalogue: &Catalogue) -> u32
     ensures { result ≡ rows_of (asked catalogue.now) }
 {
-    match row_count(catalogue.count(), catalogue.tests()) {
-        Some(rows) => rows,
-        None => 0,
-    }
+    row_count(catalogue.count(), catalogue.tests()).unwrap_or(0)
 }
 
 // Whether no list has fewer entries than there are working rows.

@@ -1,63 +1,75 @@
-use Rattle.std.proofs.Common.{◌≡◌, ℕ, length, sym, refl, ap, ◌∙◌, arith, length-set, rules}
+use Rattle.std.proofs.Common.{◌≡◌, ℕ, ◌+◌, Option, IsSomeAnd, sym, ap, ◌∙◌, subst, ⊎_elim, arith}
+use Rattle.std.specs.Iterator.Adapters.{zip_first, zip_second}
+use Rattle.std.specs.declared.ops.Range.{Range}
 use Rattle.catalogue.specs.Asked.{asked}
+use Rattle.sets.specs.declared.rows.Row.{Row}
 use Rattle.sets.specs.declared.small_sets.SmallSet.{SmallSet}
+use Rattle.solver.specs.declared.ordered.Rows.{Rows}
 use Rattle.solver.proofs.Steps.{solved_none}
 use Rattle.solver.proofs.Summing.{tries_before, tries_none, tries_all}
-use Rattle.solver.proofs.Turns.{tests_below, length_priced, solved_turn, tries_turn, next_turn, first_turn, in_room, solved_as}
+use Rattle.solver.proofs.Turns.{TurnAt, tests_below, solved_turn, tries_turn, next_turn, first_turn, this_turn, all_turns, solved_end}
 use Rattle.solver.proofs.rows.fill_rows.Goals as goal
-
-bits : (a b : SmallSet) (n : ℕ) → a ≡ b → b.bits ≡ n → a.bits ≡ n
-bits a b n e f = ap (λ (s : SmallSet). s.bits) e ∙ f
 
 pub loop-place-init : goal.loop-place-init
 loop-place-init g c =
-    let Q = asked c.args.catalogue.now in (
-      (c.over-price_table.ensures.tested, c.over-size_table.ensures.tested, c.over-choice_table.ensures.tested),
-      (refl, refl, refl),
-      (refl, refl, refl),
-      (λ some. first_turn Q _ _ c.first-row.ensures.tables c.first-row.ensures.tests),
-      solved_none _ Q _ _ _ 0 refl,
-      sym (tries_none _ Q),
-      omega arith,
-    )
-
-pub solve_row-tries-requires : goal.solve_row-tries-requires
-solve_row-tries-requires g c =
-    let i = c.loop-place.invariant in
-    let here = i.3 c.loop-place-test.true in
+    let m = g.M.PriceModel.meaning c.args.work.now.model.now in
+    let Q = asked c.args.work.now.catalogue.now in
+    let same = c.into_iter-place-iterator.ensures.into_iter_gives in
+    let places = ap zip_first same ∙ c.zip-place-items.ensures.first in
+    let start : ℕ = (zip_first c.into_iter-place-iterator.result).start in
+    let rows = ap zip_second same ∙ c.zip-place-items.ensures.second in
+    let none = ap {B = ℕ} (λ (r : Range ℕ). r.start) places in
     record {
-      cuts = c.requires.cuts;
-      turn = record { tested = c.requires.places; own = here.0; sized = λ R S own l. i.4.sizes_are R S own (omega (arith, here.1, l)) };
-      same = bits _ _ _ i.0.0 c.tests-tested.ensures ∙ sym c.requires.places;
+      can = (tt, tt);
+      ends = tt;
+      tested = ap (λ (r : Rows). r.tested.bits) rows ∙ ap (λ (s : SmallSet). s.bits) c.all-all_rows.ensures.tested ∙ c.tests.ensures;
+      end = ap (λ (r : Range ℕ). r.end) places;
+      within = omega (arith, none);
+      turn = λ some. subst (λ (o : Option Row). IsSomeAnd o (TurnAt Q start)) (sym (ap (λ (r : Rows). r.next) rows))
+          (subst (λ (n : ℕ). IsSomeAnd c.all-all_rows.result.next (TurnAt Q n)) (sym none) (first_turn Q c.all-all_rows.result.next c.all-all_rows.ensures.first));
+      solved = solved_none m Q _ _ _ _ none;
+      tried = sym (ap (tries_before m Q) none ∙ tries_none m Q);
+      few = omega arith;
     }
 
 pub loop-place-preserved : goal.loop-place-preserved
 loop-place-preserved g c =
-    let Q = asked c.args.catalogue.now in
+    let w = c.args.work.now in
+    let m = g.M.PriceModel.meaning w.model.now in
+    let Q = asked w.catalogue.now in
     let i = c.loop-place.invariant in
     let s = c.solve_row-tries.ensures in
-    let T = c.tests-tested.ensures in
-    let here = i.3 c.loop-place-test.true in (
-      (s.tested.0 ∙ i.0.0, s.tested.1 ∙ i.0.1, s.tested.2 ∙ i.0.2),
-      (s.lenders.0 ∙ i.1.0, s.lenders.1 ∙ i.1.1, s.lenders.2 ∙ i.1.2),
-      (ap length s.prices ∙ length_priced _ _ _ ∙ i.2.0, ap length s.sizes ∙ length-set _ _ _ ∙ i.2.1, ap length s.choices ∙ length-set _ _ _ ∙ i.2.2),
-      (λ more. next_turn Q c.tests-tested.result.bits _ _ _ _ c.loop-place.place c.args.rows T c.args.catalogue.now.few c.requires.all here.0 here.1 c.following-row.ensures more),
-      solved_turn _ Q c.loop-place.place _ _ _ _ _ _ _ _ i.4 here.0 here.1 _ _ _ _ _ _
-          (bits _ _ _ i.0.0 T) (bits _ _ _ i.0.1 T) (bits _ _ _ i.0.2 T) (in_room _ _ _ _ c.args.rows c.over-price_table.ensures.cells i.2.0 c.requires.enough.0 c.loop-place-test.true) (in_room _ _ _ _ c.args.rows c.over-size_table.ensures.cells i.2.1 c.requires.enough.1 c.loop-place-test.true) (in_room _ _ _ _ c.args.rows c.over-choice_table.ensures.cells i.2.2 c.requires.enough.2 c.loop-place-test.true) s.prices s.sizes s.choices,
-      tries_turn _ Q c.loop-place.place _ _ _ _ _ _ _ _ i.4 here.0 here.1 _ _ _ (bits _ _ _ i.0.0 T) (omega (arith, c.requires.all, c.loop-place-test.true)) i.5 s.tries,
-      omega (arith, i.6, s.few),
-    )
-
-pub returns : goal.returns
-returns g c =
-    let Q = asked c.args.catalogue.now in
-    let i = c.loop-place.invariant in
-    let end : c.loop-place.place ≡ c.args.rows = omega arith in
-    let prices_named = i.1.0 ∙ c.over-price_table.ensures.lender in
-    let sizes_named = i.1.1 ∙ c.over-size_table.ensures.lender in
-    let choices_named = i.1.2 ∙ c.over-choice_table.ensures.lender in
+    let it = c.loop-place.place-iterator in
+    let p : ℕ = (zip_first it).start in
+    let place : ℕ = c.in-Some.place in
+    let step = c.in-Some.ensures.steps in
+    let is : place ≡ p = step.0.1.1 in
+    let up : (zip_first c.next.new.self).start ≡ p + 1 = step.0.1.2 in
+    let more = step.0.1.0 in
+    let here = this_turn Q p (zip_second it).next c.in-Some.row step.1.0 (i.turn (omega (arith, more, i.end))) in
+    let at = here.1 ∙ sym is in
+    let solved = solved_end m Q p place _ _ _ _ _ _ (sym is) i.solved in
     record {
-      solved = solved_as _ Q _ _ _ _ c.loop-place.price_table.cells.now _ _ _ c.loop-place.size_table.cells.now _ _ _ c.loop-place.choice_table.cells.now _
-          end c.over-price_table.ensures.cells (search rules) c.over-size_table.ensures.cells (search rules) c.over-choice_table.ensures.cells (search rules) i.4;
-      tries = i.5 ∙ ap (tries_before _ Q) (end ∙ c.requires.all) ∙ tries_all _ Q (tests_below Q);
+      can = (tt, tt);
+      ends = tt;
+      tested = ap (λ (s : SmallSet). s.bits) step.1.1 ∙ i.tested;
+      end = step.0.0 ∙ i.end;
+      within = omega (arith, more, i.end, up);
+      turn = λ less. next_turn Q c.in-Some.row (zip_second it) (zip_second c.next.new.self) p _ c.args.rows i.tested w.catalogue.now.few c.requires.all here step.1 up less;
+      solved = solved_end m Q (place + 1) _ _ _ _ _ _ _ (omega (arith, is, up))
+          (solved_turn m Q place _ _ _ _ _ _ _ _ solved here.0 at _ _ _ _ w.tested (omega (arith, more, is, i.end)) (omega (arith, more, is, i.end)) (omega (arith, more, is, i.end)) s.prices s.sizes s.choices);
+      tried = tries_turn m Q p _ _ _ _ _ _ _ _ i.solved here.0 here.1 _ _ _ w.tested (omega (arith, c.requires.all, more, i.end)) i.tried s.tries ∙ ap (tries_before m Q) (sym up);
+      few = omega (arith, i.few, s.few, up);
     }
+
+pub returns-clause-tries : goal.returns-clause-tries
+returns-clause-tries g c =
+    let m = g.M.PriceModel.meaning c.args.work.now.model.now in
+    let Q = asked c.args.work.now.catalogue.now in
+    let i = c.loop-place.invariant in
+    let it = c.loop-place.place-iterator in
+    let end : (zip_first it).start ≡ c.args.rows = ⊎_elim
+    (λ none. omega (arith, none.1, i.end, i.within))
+    (λ none. all_turns Q (zip_first it).start c.args.rows (zip_second it).next i.within i.turn none.1.0)
+    c.in-None.ensures.steps in
+    i.tried ∙ ap (tries_before m Q) (end ∙ c.requires.all) ∙ tries_all m Q (tests_below Q)

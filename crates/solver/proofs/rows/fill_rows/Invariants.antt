@@ -1,15 +1,25 @@
-use Rattle.std.proofs.Common.{◌≡◌, ◌*◌, ◌<◌, ◌≤◌, length}
+use Rattle.std.proofs.Common.{◌≡◌, ◌*◌, ◌<◌, ◌≤◌, IsSomeAnd}
+use Rattle.std.specs.Iterator.Adapters.{zip_first, zip_second}
 use Rattle.catalogue.specs.Asked.{asked}
-use Rattle.solver.specs.Solved.{Own, place, Solved}
+use Rattle.plans.specs.Questions.{all_tests}
+use Rattle.solver.specs.Solved.{Solved}
 use Rattle.solver.proofs.Summing.{tries_before}
+use Rattle.solver.proofs.Turns.{TurnAt}
 use Rattle.solver.proofs.rows.fill_rows.Given as goal
 
 abbrev pub invariant-loop-place : goal.invariant-loop-place
 invariant-loop-place g l =
-    ((l.price_table.tested ≡ l.tested) × (l.size_table.tested ≡ l.tested) × (l.choice_table.tested ≡ l.tested))
-    × ((l.price_table.cells.ghost_name ≡ l.initial.price_table.cells.ghost_name) × (l.size_table.cells.ghost_name ≡ l.initial.size_table.cells.ghost_name) × (l.choice_table.cells.ghost_name ≡ l.initial.choice_table.cells.ghost_name))
-    × ((length l.price_table.cells.now ≡ length l.initial.price_table.cells.now) × (length l.size_table.cells.now ≡ length l.initial.size_table.cells.now) × (length l.choice_table.cells.now ≡ length l.initial.choice_table.cells.now))
-    × (l.place < l.rows → Own (asked l.catalogue) l.row.tables.bits l.row.tests.bits × (place (asked l.catalogue) l.row.tables.bits l.row.tests.bits ≡ l.place))
-    × Solved (g.M.PriceModel.meaning l.model) (asked l.catalogue) l.place l.initial.price_table.cells.now l.price_table.cells.now l.initial.size_table.cells.now l.size_table.cells.now l.initial.choice_table.cells.now l.choice_table.cells.now
-    × (l.tries ≡ tries_before (g.M.PriceModel.meaning l.model) (asked l.catalogue) l.place)
-    × (l.tries ≤ 2010 * l.place)
+    let m = g.M.PriceModel.meaning l.work.model.now in
+    let Q = asked l.work.catalogue.now in
+    let left = zip_first l.place-iterator in
+    record {
+      can : (goal.iterator-loop-place g).can_next l.place-iterator;
+      ends : (goal.iterator-loop-place g).is_finite l.place-iterator;
+      tested : (zip_second l.place-iterator).tested.bits ≡ all_tests Q;
+      end : left.end ≡ l.rows;
+      within : left.start ≤ l.rows;
+      turn : left.start < l.rows → IsSomeAnd (zip_second l.place-iterator).next (TurnAt Q left.start);
+      solved : Solved m Q left.start l.fn.prices l.prices l.fn.sizes l.sizes l.fn.choices l.choices;
+      tried : l.tries ≡ tries_before m Q left.start;
+      few : l.tries ≤ 2010 * left.start;
+    }

@@ -4,20 +4,7 @@ use Rattle.solver.specs.Solves.{enough}
 use Rattle.solver.proofs.Undercut.{never_undercut}
 use Rattle.solver.proofs.solving.solve.Goals as goal
 
-pub returns-then-count-eq0 : goal.returns-then-count-eq0
-returns-then-count-eq0 g c =
+pub returns-clause-cheapest : goal.returns-clause-cheapest
+returns-clause-cheapest g c =
     let Q = asked c.args.catalogue.now in
-    let cheapest = never_undercut _ (g.met.M.PriceModel.lawful c.args.model.now) Q (enough Q (length c.args.prices.now) (length c.args.sizes.now) (length c.args.choices.now)) in
-    search (rules, cheapest)
-
-pub returns-then-not-room : goal.returns-then-not-room
-returns-then-not-room g c =
-    let Q = asked c.args.catalogue.now in
-    let cheapest = never_undercut _ (g.met.M.PriceModel.lawful c.args.model.now) Q (enough Q (length c.args.prices.now) (length c.args.sizes.now) (length c.args.choices.now)) in
-    search (rules, cheapest)
-
-pub returns : goal.returns
-returns g c =
-    let Q = asked c.args.catalogue.now in
-    let cheapest = never_undercut _ (g.met.M.PriceModel.lawful c.args.model.now) Q (enough Q (length c.args.prices.now) (length c.args.sizes.now) (length c.args.choices.now)) in
-    search (rules, cheapest)
+    never_undercut _ (g.met.M.PriceModel.lawful c.args.model.now) Q (enough Q (length c.args.prices.now) (length c.args.sizes.now) (length c.args.choices.now)) _ (search rules)
