@@ -19,89 +19,40 @@ impl Catalogue {
         }
     }
 
-    // The cost of that tie if the other table is one of the set.
-    fn cost_into(&self, table: u8, other: u8, others: SmallSet) -> u32
-        ensures value { result ≡ (if has others.bits other then cost_of (asked self.now) table other else 0) }
-        ensures bound { result ≤ 65535 }
-    {
-        if others.contains(other) {
-            return self.tie_cost(table, other);
-        }
-        0
-    }
-
     // The costs of the ties of a table to those of a set, added up.
     pub(crate) fn costs_to(&self, table: u8, others: SmallSet) -> u32
         ensures value { result ≡ sum_below (λ j. (if has others.bits j then cost_of (asked self.now) table j else 0)) self.now.count }
         ensures bound { result ≤ 655350 }
     {
-        let mut sum = 0;
-        for other in 0..self.count {
-            sum += self.cost_into(table, other, others);
-        }
-        sum
-    }
-
-    // The costs of a table's ties to the right, if it is one of the left.
-    fn costs_from(&self, table: u8, left: SmallSet, right: SmallSet) -> u32
-        ensures value { result ≡ (if has left.bits table then sum_below (λ j. (if has right.bits j then cost_of (asked self.now) table j else 0)) self.now.count else 0) }
-        ensures bound { result ≤ 655350 }
-    {
-        if left.contains(table) {
-            return self.costs_to(table, right);
-        }
-        0
+        (0..self.count)
+            .filter(|other| others.contains(*other))
+            .map(|other| self.tie_cost(table, other))
+            .sum()
     }
 
     // The costs of all ties between the left tables and the right, added up.
     pub fn across(&self, left: SmallSet, right: SmallSet) -> u32
         ensures { result ≡ across_of (asked self.now) left.bits right.bits }
     {
-        let mut sum = 0;
-        for table in 0..self.count {
-            sum += self.costs_from(table, left, right);
-        }
-        sum
-    }
-
-    // Whether the other table is one of the set, and tied to the table.
-    fn ties_into(&self, table: u8, other: u8, others: SmallSet) -> bool
-        ensures { result ≡ (has others.bits other && is_some (tie_of (asked self.now) table other)) }
-    {
-        others.contains(other) && self.tie_of(table, other).is_some()
+        (0..self.count)
+            .filter(|table| left.contains(*table))
+            .map(|table| self.costs_to(table, right))
+            .sum()
     }
 
     // Whether a table is tied to one of a set.
     fn tied_to(&self, table: u8, others: SmallSet) -> bool
         ensures { result ≡ any_below (λ j. has others.bits j && is_some (tie_of (asked self.now) table j)) self.now.count }
     {
-        let mut found = false;
-        for other in 0..self.count {
-            if self.ties_into(table, other, others) {
-                found = true;
-            }
-        }
-        found
-    }
-
-    // Whether a table is one of the left, and tied to one of the right.
-    fn links_from(&self, table: u8, left: SmallSet, right: SmallSet) -> bool
-        ensures { result ≡ (has left.bits table && any_below (λ j. has right.bits j && is_some (tie_of (asked self.now) table j)) self.now.count) }
-    {
-        left.contains(table) && self.tied_to(table, right)
+        (0..self.count)
+            .any(|other| others.contains(other) && self.tie_of(table, other).is_some())
     }
 
     // Whether a tie links the left tables to the right.
     pub fn linked(&self, left: SmallSet, right: SmallSet) -> bool
         ensures { result ≡ linked_by (asked self.now) left.bits right.bits }
     {
-        let mut found = false;
-        for table in 0..self.count {
-            if self.links_from(table, left, right) {
-                found = true;
-            }
-        }
-        found
+        (0..self.count).any(|table| left.contains(table) && self.tied_to(table, right))
     }
 
     // All tables.
