@@ -58,32 +58,11 @@ impl<'a> Cuts<'a> {
     }
 }
 
-// The set, with a table above its members if a tie links that to `tables`.
-fn with_neighbour(catalogue: &Catalogue, near: SmallSet, tables: SmallSet, other: u8) -> SmallSet
-    requires below { near.bits < 2 ^ other }
-    requires given { other < 10 }
-    ensures { result.bits ≡ near.bits + (if linked_by (asked catalogue.now) tables.bits (2 ^ other) then 2 ^ other else 0) }
-{
-    let Some(one) = SmallSet::single(other) else {
-        return near;
-    };
-    if catalogue.linked(tables, one) {
-        if let Some(more) = near.with_member(other) {
-            return more;
-        }
-    }
-    near
-}
-
 // The tables that a tie links to `tables`.
 fn neighbours(catalogue: &Catalogue, tables: SmallSet) -> SmallSet
     ensures { result.bits ≡ near_of (asked catalogue.now) tables.bits }
 {
-    let mut near = SmallSet::empty();
-    for other in 0..catalogue.count() {
-        near = with_neighbour(catalogue, near, tables, other);
-    }
-    near
+    catalogue.tables_where(|other| catalogue.tied_to(other, tables))
 }
 
 // The same, from what is near each smaller set.

@@ -1,5 +1,5 @@
 // What ties two sets of tables, and the sets of all tables and all tests.
-ghost use Rattle.std.specs.Prelude.{◌≡◌, ◌+◌, ◌*◌, ◌^◌, ◌<◌, ◌≤◌, ◌&&◌, is_some, if◌then◌else◌};
+ghost use Rattle.std.specs.Prelude.{◌≡◌, ℕ, Bool, ◌+◌, ◌*◌, ◌^◌, ◌<◌, ◌≤◌, ◌&&◌, is_some, if◌then◌else◌};
 ghost use Rattle.catalogue.specs.Asked.{asked};
 ghost use Rattle.plans.specs.Questions.{across as across_of, all_tables, all_tests, cost_of, linked as linked_by, tie_of};
 ghost use Rattle.sets.specs.Sets.{any_below, has, sum_below};
@@ -41,7 +41,7 @@ impl Catalogue {
     }
 
     // Whether a table is tied to one of a set.
-    fn tied_to(&self, table: u8, others: SmallSet) -> bool
+    pub(crate) fn tied_to(&self, table: u8, others: SmallSet) -> bool
         ensures { result ≡ any_below (λ j. has others.bits j && is_some (tie_of (asked self.now) table j)) self.now.count }
     {
         (0..self.count)
@@ -65,28 +65,24 @@ impl Catalogue {
         }
     }
 
-    // The set, with the test of a table if there is one.
-    fn with_test(&self, tests: SmallSet, table: u8) -> SmallSet
-        requires below { tests.bits < 2 ^ table }
-        requires given { table < 10 }
-        ensures { result.bits ≡ tests.bits + (if is_some ((asked self.now).test table) then 2 ^ table else 0) }
+    // The tables of which `holds` is true.
+    pub(crate) fn tables_where<F: Fn(u8) -> bool>(&self, holds: F) -> SmallSet
+        requires { F.IsAlwaysCallable holds }
+        ensures { (f : ℕ → Bool) → ((i : ℕ) (b : Bool) → i < self.now.count → F.post holds i b → b ≡ f i) → result.bits ≡ sum_below (λ i. (if f i then 2 ^ i else 0)) self.now.count }
     {
-        if self.test_of(table).is_some() {
-            if let Some(more) = tests.with_member(table) {
-                return more;
+        let mut tables = SmallSet::empty();
+        for table in 0..self.count {
+            if holds(table) {
+                tables = tables.with_member(table).unwrap_or(tables);
             }
         }
-        tests
+        tables
     }
 
     // All tests.
     pub fn tests(&self) -> SmallSet
         ensures { result.bits ≡ all_tests (asked self.now) }
     {
-        let mut tests = SmallSet::empty();
-        for table in 0..self.count {
-            tests = self.with_test(tests, table);
-        }
-        tests
+        self.tables_where(|table| self.test_of(table).is_some())
     }
 }
