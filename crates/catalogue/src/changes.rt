@@ -54,25 +54,13 @@ impl Catalogue {
     }
 
     // The tie of two tables, whichever way round it was given.
+    #[tactic(auto, unfolding(plans::specs::Questions::tie_of))]
     pub fn tie_of(&self, table: u8, other: u8) -> Option<Tie>
         ensures value { result ≡ tie_of (asked self.now) table other }
         ensures fair { (1 ≤ tie_q result) × (tie_p result ≤ tie_q result) }
     {
-        match self.given_tie(table, other) {
-            Some(tie) => Some(tie),
-            None => self.given_tie(other, table),
-        }
-    }
-
-    // The test that stands at a table's number.
-    fn given_test(&self, table: u8) -> Option<Test>
-        ensures value { result ≡ (asked self.now).test table }
-        ensures fair { (1 ≤ test_q result) × (test_p result ≤ test_q result) }
-    {
-        if table >= 10 {
-            return None;
-        }
-        self.tests[table as usize]
+        self.given_tie(table, other)
+            .or_else(|| self.given_tie(other, table))
     }
 
     // The test on a table.
@@ -80,7 +68,7 @@ impl Catalogue {
         ensures value { result ≡ (asked self.now).test table }
         ensures fair { (1 ≤ test_q result) × (test_p result ≤ test_q result) }
     {
-        self.given_test(table)
+        self.tests.get(table as usize).copied().flatten()
     }
 
     // Sets the tie between two tables.
@@ -159,10 +147,5 @@ impl Catalogue {
 fn corrected_cost(cost: u16, by: i32) -> Option<u16>
     ensures { result ≡ as_cost (pos cost +ℤ by) }
 {
-    let sum = cost as i64 + by as i64;
-    if sum < 0 || sum > u16::MAX as i64 {
-        None
-    } else {
-        Some(sum as u16)
-    }
+    u16::try_from(cost as i64 + by as i64).ok()
 }

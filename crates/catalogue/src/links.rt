@@ -9,14 +9,12 @@ use sets::SmallSet;
 
 impl Catalogue {
     // The cost of the tie of two tables, 0 without one.
+    #[tactic(auto, unfolding(plans::specs::Questions::cost_of))]
     fn tie_cost(&self, table: u8, other: u8) -> u32
         ensures value { result ≡ cost_of (asked self.now) table other }
         ensures bound { result ≤ 65535 }
     {
-        match self.tie_of(table, other) {
-            Some(tie) => tie.cost as u32,
-            None => 0,
-        }
+        self.tie_of(table, other).map_or(0, |tie| tie.cost as u32)
     }
 
     // The costs of the ties of a table to those of a set, added up.
@@ -59,10 +57,7 @@ impl Catalogue {
     pub fn tables(&self) -> SmallSet
         ensures { result.bits ≡ all_tables (asked self.now) }
     {
-        match SmallSet::first(self.count) {
-            Some(tables) => tables,
-            None => SmallSet::empty(),
-        }
+        SmallSet::first(self.count).unwrap_or(SmallSet::empty())
     }
 
     // The tables of which `holds` is true.

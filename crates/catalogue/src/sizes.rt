@@ -14,7 +14,7 @@ fn scaled(n: u64, p: u16, q: u16) -> u64
     ensures value { result ≡ up (n * p) q }
     ensures bound { result ≤ n }
 {
-    ((n as u128 * p as u128 + (q - 1) as u128) / q as u128) as u64
+    (n as u128 * p as u128).div_ceil(q as u128) as u64
 }
 
 impl Catalogue {
@@ -36,10 +36,8 @@ impl Catalogue {
         ensures value { result ≡ tied_rows_of (tie_of (asked self.now) table other) n }
         ensures bound { result ≤ n }
     {
-        match self.tie_of(table, other) {
-            Some(tie) => scaled(n, tie.p, tie.q),
-            None => n,
-        }
+        self.tie_of(table, other)
+            .map_or(n, |tie| scaled(n, tie.p, tie.q))
     }
 
     // n, narrowed by the ties of the table to those of the set above it.
@@ -63,12 +61,7 @@ impl Catalogue {
         ensures value { result ≡ min 16777215 (narrowed_by (asked self.now) table (from (table + 1) self.now.count tables.bits) (base_of (asked self.now) tests.bits table * rest)) }
     {
         let pairs = self.base(tests, table) as u64 * rest as u64;
-        let left = self.narrowed(table, tables, pairs);
-        if left > MOST_ROWS as u64 {
-            MOST_ROWS
-        } else {
-            left as u32
-        }
+        self.narrowed(table, tables, pairs).min(MOST_ROWS as u64) as u32
     }
 
     // The size of the tables under the tests.

@@ -18,9 +18,6 @@ impl Catalogue {
         ensures value { table < 10 → result ≡ (asked self.now).rows table }
         ensures beyond { 10 ≤ table → result ≡ 0 }
     {
-        if table >= 10 {
-            return 0;
-        }
-        self.rows[table as usize]
+        self.rows.get(table as usize).copied().unwrap_or(0)
     }
 }
