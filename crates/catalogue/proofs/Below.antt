@@ -75,9 +75,9 @@ module _ (p : ℕ → Bool) (h : ℕ → ℕ) where
 
 -- What `filter`, `map` and `sum` give over the numbers below n, where the closures compute p and h, and h is at most m.
 module _ {P F : Type 0} {test : Mut P (Bor ℕ × Unit {0}) Bool} {each : Mut F (ℕ × Unit {0}) ℕ} (s : Map (Filter (Range ℕ) P) F) {t : Filter (Range ℕ) P} {cp : P} {cf : F} (n m : ℕ) (p : ℕ → Bool) (h : ℕ → ℕ)
-  (t_is : map_source s ≡ t) (f_is : map_callee s ≡ cf) (range_is : filter_source t ≡ record { start = 0; end = n }) (p_is : filter_callee t ≡ cp)
-  (tests : (x : ℕ) (b : Bool) (q : P) → CalledAt test cp x b q → (q ≡ cp) × (b ≡ p x))
-  (calls : (x r : ℕ) (q : F) → Called each cf (x, tt) r q → (q ≡ cf) × (r ≡ h x) × (r ≤ m)) where
+    (t_is : map_source s ≡ t) (f_is : map_callee s ≡ cf) (range_is : filter_source t ≡ record { start = 0; end = n }) (p_is : filter_callee t ≡ cp)
+    (tests : (x : ℕ) (b : Bool) (q : P) → CalledAt test cp x b q → (q ≡ cp) × (b ≡ p x))
+    (calls : (x r : ℕ) (q : F) → Called each cf (x, tt) r q → (q ≡ cf) × (r ≡ h x) × (r ≤ m)) where
   road : (f : ℕ → ℕ) → ((x r : ℕ) (q : F) → Called each cf (x, tt) r q → (q ≡ cf) × (r ≡ f x)) → YieldsList (maps (filter_steps nat_range_steps test) each) (λ r. r) s (map f (filter p (range_with_len 0 n)))
   road f c = YieldsList-from_map each f (YieldsList-at t_is (YieldsList-from_filter test p (YieldsList-from_range 0 n n range_is (omega arith)) p_is tests)) f_is c
 

@@ -39,11 +39,10 @@ impl Catalogue {
     }
 
     // Whether a table is tied to one of a set.
-    pub(crate) fn tied_to(&self, table: u8, others: SmallSet) -> bool
+    fn tied_to(&self, table: u8, others: SmallSet) -> bool
         ensures { result ≡ any_below (λ j. has others.bits j && is_some (tie_of (asked self.now) table j)) self.now.count }
     {
-        (0..self.count)
-            .any(|other| others.contains(other) && self.tie_of(table, other).is_some())
+        (0..self.count).any(|other| others.contains(other) && self.tie_of(table, other).is_some())
     }
 
     // Whether a tie links the left tables to the right.

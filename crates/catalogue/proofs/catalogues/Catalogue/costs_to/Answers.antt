@@ -13,5 +13,5 @@ sum-requires-clause-fits c =
 pub returns : goal.returns
 returns c =
     let e = sum_over c.map.result c.args.self.now.count 65535 (has c.args.others.bits) (cost_of (asked c.args.self.now) c.args.table) c.map.ensures.source c.map.ensures.closure
-            c.filter.ensures.source c.filter.ensures.closure (λ x b q k. search rules) (λ x r q k. search rules) _ c.sum.ensures.ran in
+    c.filter.ensures.source c.filter.ensures.closure (λ x b q k. search rules) (λ x r q k. search rules) _ c.sum.ensures.ran in
     record { value = e.0; bound = omega (arith, e.1) }
