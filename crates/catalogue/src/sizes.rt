@@ -46,13 +46,9 @@ impl Catalogue {
         ensures value { result ≡ narrowed_by (asked self.now) table (from (table + 1) self.now.count tables.bits) n }
         ensures bound { result ≤ n }
     {
-        let mut left = n;
-        for other in table + 1..self.count {
-            if tables.contains(other) {
-                left = self.tied_rows(table, other, left);
-            }
-        }
-        left
+        (table + 1..self.count)
+            .filter(|other| tables.contains(*other))
+            .fold(n, |left, other| self.tied_rows(table, other, left))
     }
 
     // The size of a table and of those of the set above it, from the size of those.
