@@ -5,6 +5,7 @@ ghost use Rattle.catalogue.specs.Fair.{test_p, test_q, tie_p, tie_q};
 ghost use Rattle.catalogue.specs.Changes.{Follows, as_cost, corrected, empty, tabled, tested, tied};
 ghost use Rattle.plans.specs.Questions.{Question, tie_of};
 
+use crate::catalogues::Table;
 use crate::{Catalogue, ChangeRefusal};
 use plans::{Test, Tie};
 use pricing::Kind;
@@ -19,9 +20,11 @@ impl Catalogue {
     {
         Catalogue {
             count: 0,
-            rows: [0; 10],
+            tables: [Table {
+                rows: 0,
+                test: None,
+            }; 10],
             ties: [None; 100],
-            tests: [None; 10],
         }
     }
 
@@ -37,7 +40,7 @@ impl Catalogue {
         if rows > MOST_ROWS {
             return Err(ChangeRefusal::TooManyRows);
         }
-        self.rows[number as usize] = rows;
+        self.tables[number as usize] = Table { rows, test: None };
         self.count = number + 1;
         Ok(number)
     }
@@ -68,7 +71,7 @@ impl Catalogue {
         ensures value { result ≡ (asked self.now).test table }
         ensures fair { (1 ≤ test_q result) × (test_p result ≤ test_q result) }
     {
-        self.tests.get(table as usize).copied().flatten()
+        self.tables.get(table as usize).and_then(|table| table.test)
     }
 
     // Sets the tie between two tables.
@@ -121,7 +124,7 @@ impl Catalogue {
         if self.test_of(table).is_some() {
             return Err(ChangeRefusal::AlreadyTested);
         }
-        self.tests[table as usize] = Some(Test { p, q, cost, kind });
+        self.tables[table as usize].test = Some(Test { p, q, cost, kind });
         Ok(())
     }
 
@@ -138,7 +141,7 @@ impl Catalogue {
         let Some(cost) = corrected_cost(test.cost, by) else {
             return Err(ChangeRefusal::CostOutOfRange);
         };
-        self.tests[table as usize] = Some(Test { cost, ..test });
+        self.tables[table as usize].test = Some(Test { cost, ..test });
         Ok(())
     }
 }

@@ -4,6 +4,7 @@ ghost use Rattle.catalogue.specs.Asked.{asked};
 ghost use Rattle.catalogue.specs.Members.{from, tied_rows as tied_rows_of};
 ghost use Rattle.plans.specs.Questions.{across as across_of, base as base_of, charged as charged_for, linked as linked_by, narrowed as narrowed_by, size as size_of_set, tie_of, up};
 
+use crate::catalogues::Table;
 use crate::{Catalogue, MOST_ROWS};
 use sets::SmallSet;
 
@@ -19,13 +20,14 @@ fn scaled(n: u64, p: u16, q: u16) -> u64
 
 impl Catalogue {
     // The rows of a table, or what its test leaves of them if the test is one of `tests`.
+    #[tactic(auto, unfolding(plans::specs::Questions::base))]
     fn base(&self, tests: SmallSet, table: u8) -> u32
         requires { table < 10 }
         ensures value { result ≡ base_of (asked self.now) tests.bits table }
         ensures bound { result ≤ 16777215 }
     {
-        let rows = self.rows[table as usize];
-        match self.test_of(table) {
+        let Table { rows, test } = self.tables[table as usize];
+        match test {
             Some(test) if tests.contains(table) => scaled(rows as u64, test.p, test.q) as u32,
             _ => rows,
         }

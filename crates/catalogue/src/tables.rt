@@ -18,6 +18,8 @@ impl Catalogue {
         ensures value { table < 10 → result ≡ (asked self.now).rows table }
         ensures beyond { 10 ≤ table → result ≡ 0 }
     {
-        self.rows.get(table as usize).copied().unwrap_or(0)
+        self.tables
+            .get(table as usize)
+            .map_or(0, |table| table.rows)
     }
 }
