@@ -2,6 +2,7 @@
 use Rattle.std.proofs.Common.{◌≡◌, ℕ, zero, suc, ◌+◌, ◌^◌, ◌<◌, Bool, true, false, not, ◌&&◌, ◌||◌, eqb, ltb, is_some, sym, refl, ap, ◌∙◌, ap₂, ⊎_elim, pow-suc, arith}
 use lib.Bits.{bit_and}
 use lib.Count.{count_trailing_zeros}
+use Rattle.std.proofs.Math.Bool.{and-false, and-true}
 use Rattle.std.proofs.lemmas.Bool.{cases_eq, and_parts, and_from, or_cases, or_left, or_right, eq-eqb, ne_eqb, eqb-true, lt-ltb, true≢false, false≢true}
 use Rattle.sets.specs.Sets.{has}
 use Rattle.sets.proofs.Bits.{has_and, has_sum, has_pow, has_pow_self, zero_bits, same_bits}
@@ -82,11 +83,7 @@ near_more Q A t j apart t_given j_given =
 
 pub near_none : (Q : Question) → near Q 0 ≡ 0
 near_none Q = same_bits (near Q 0) 0 (λ j.
-    near_has Q 0 j ∙ ap (λ (b : Bool). ltb j Q.count && b) (linked_none Q (2 ^ j)) ∙ sym (zero_bits j ∙ sym (no (ltb j Q.count))))
-  where
-    no : (x : Bool) → (x && false) ≡ false
-    no true = refl
-    no false = refl
+    near_has Q 0 j ∙ ap (λ (b : Bool). ltb j Q.count && b) (linked_none Q (2 ^ j)) ∙ sym (zero_bits j ∙ sym (and-false (ltb j Q.count))))
 
 -- ---- a link is a table near the one side that is on the other
 
@@ -121,11 +118,7 @@ linked_near Q A B = both_ways (linked Q A B) (not (eqb m 0))
 -- ---- only given tables count
 
 pub all_given : (Q : Question) (A i : ℕ) → i < Q.count → has (bit_and A (all_tables Q)) i ≡ has A i
-all_given Q A i l = has_and A (all_tables Q) i ∙ ap (λ (b : Bool). has A i && b) (full_has Q.count i ∙ lt-ltb i Q.count l) ∙ whole (has A i)
-  where
-    whole : (b : Bool) → (b && true) ≡ b
-    whole true = refl
-    whole false = refl
+all_given Q A i l = has_and A (all_tables Q) i ∙ ap (λ (b : Bool). has A i && b) (full_has Q.count i ∙ lt-ltb i Q.count l) ∙ and-true (has A i)
 
 pub linked_given : (Q : Question) (A B : ℕ) → linked Q (bit_and A (all_tables Q)) B ≡ linked Q A B
 linked_given Q A B = both_ways (linked Q G B) (linked Q A B)

@@ -9,6 +9,7 @@ use crate::{Catalogue, MOST_ROWS};
 use sets::SmallSet;
 
 // n × p / q, rounded up.
+#[tactic(auto, using(crate::proofs::Scaling::up_is))]
 fn scaled(n: u64, p: u16, q: u16) -> u64
     requires whole { 1 ≤ q }
     requires part { p ≤ q }
