@@ -118,9 +118,7 @@ impl Catalogue {
         if q == 0 || p > q {
             return Err(ChangeRefusal::BadSelectivity);
         }
-        let Some(kind) = Kind::from_number(kind) else {
-            return Err(ChangeRefusal::NoSuchKind);
-        };
+        let kind = Kind::from_number(kind).ok_or(ChangeRefusal::NoSuchKind)?;
         if self.test_of(table).is_some() {
             return Err(ChangeRefusal::AlreadyTested);
         }
@@ -135,12 +133,8 @@ impl Catalogue {
         if table >= self.count {
             return Err(ChangeRefusal::NoSuchTable);
         }
-        let Some(test) = self.test_of(table) else {
-            return Err(ChangeRefusal::NoTest);
-        };
-        let Some(cost) = corrected_cost(test.cost, by) else {
-            return Err(ChangeRefusal::CostOutOfRange);
-        };
+        let test = self.test_of(table).ok_or(ChangeRefusal::NoTest)?;
+        let cost = corrected_cost(test.cost, by).ok_or(ChangeRefusal::CostOutOfRange)?;
         self.tables[table as usize].test = Some(Test { cost, ..test });
         Ok(())
     }
