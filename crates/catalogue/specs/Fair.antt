@@ -2,11 +2,6 @@
 use Rattle.std.specs.Prelude.{ℕ, Some, None, Option}
 use Rattle.plans.specs.declared.predicates.Tie.{Tie}
 use Rattle.plans.specs.declared.predicates.Test.{Test}
-use Rattle.catalogue.specs.declared.catalogues.Table.{Table}
-
--- What stands where no table was given.
-abbrev pub no_table : Table
-no_table = record { rows = 0; test = None }
 
 -- p and q of a tie or a test; without one, every row remains.
 abbrev pub tie_p : Option Tie → ℕ

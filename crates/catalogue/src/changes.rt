@@ -23,8 +23,8 @@ impl Catalogue {
             tables: [Table {
                 rows: 0,
                 test: None,
+                ties: [None; 10],
             }; 10],
-            ties: [None; 100],
         }
     }
 
@@ -40,7 +40,7 @@ impl Catalogue {
         if rows > MOST_ROWS {
             return Err(ChangeRefusal::TooManyRows);
         }
-        self.tables[number as usize] = Table { rows, test: None };
+        self.tables[number as usize].rows = rows;
         self.count = number + 1;
         Ok(number)
     }
@@ -50,10 +50,8 @@ impl Catalogue {
         ensures value { result ≡ (asked self.now).tie table other }
         ensures fair { (1 ≤ tie_q result) × (tie_p result ≤ tie_q result) }
     {
-        if table >= 10 || other >= 10 {
-            return None;
-        }
-        self.ties[table as usize * 10 + other as usize]
+        let from = self.tables.get(table as usize)?;
+        from.ties.get(other as usize).copied().flatten()
     }
 
     // The tie of two tables, whichever way round it was given.
@@ -97,7 +95,7 @@ impl Catalogue {
         if self.tie_of(table, other).is_some() {
             return Err(ChangeRefusal::AlreadyTied);
         }
-        self.ties[table as usize * 10 + other as usize] = Some(Tie { p, q, cost });
+        self.tables[table as usize].ties[other as usize] = Some(Tie { p, q, cost });
         Ok(())
     }
 

@@ -4,7 +4,6 @@ ghost use Rattle.catalogue.specs.Asked.{asked};
 ghost use Rattle.catalogue.specs.Members.{from, tied_rows as tied_rows_of};
 ghost use Rattle.plans.specs.Questions.{across as across_of, base as base_of, charged as charged_for, linked as linked_by, narrowed as narrowed_by, size as size_of_set, tie_of, up};
 
-use crate::catalogues::Table;
 use crate::{Catalogue, MOST_ROWS};
 use sets::SmallSet;
 
@@ -27,8 +26,8 @@ impl Catalogue {
         ensures value { result ≡ base_of (asked self.now) tests.bits table }
         ensures bound { result ≤ 16777215 }
     {
-        let Table { rows, test } = self.tables[table as usize];
-        match test {
+        let rows = self.tables[table as usize].rows;
+        match self.test_of(table) {
             Some(test) if tests.contains(table) => scaled(rows as u64, test.p, test.q) as u32,
             _ => rows,
         }
