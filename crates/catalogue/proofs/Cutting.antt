@@ -1,15 +1,15 @@
 -- What is listed of each set of tables, from smaller sets; and cuts by it.
-use Rattle.std.proofs.Common.{◌≡◌, ℕ, ◌+◌, ◌-◌, ◌^◌, ◌<◌, ◌≤◌, true, cond, ◌||◌, is_some, sym, ap, ◌∙◌, subst, ap₂, ⊎_elim, arith, pow_pos}
+use Rattle.std.proofs.Common.{◌≡◌, ℕ, ◌+◌, ◌-◌, ◌^◌, ◌<◌, ◌≤◌, true, cond, sym, ap, ◌∙◌, subst, ap₂, ⊎_elim, arith, pow_pos}
 use lib.Bits.{bit_and, bit_or, or_disjoint, and_comm}
 use Rattle.std.proofs.lemmas.Bool.{cases_lt, or_cases, true≢false}
 use Rattle.sets.specs.Sets.{has, ◌⊆◌, sum_below}
 use Rattle.sets.proofs.Bits.{has_or, has_part, has_past, part_has, part_le}
-use Rattle.sets.proofs.Parts.{meet_part, meet_part_left, one_le, one_part, parts_apart, rest_apart}
-use Rattle.plans.specs.Questions.{Question, across, all_tables, cost_of, linked, tie_of}
+use Rattle.sets.proofs.Parts.{meet_part, meet_part_left, one_le, one_part, parts_apart, rest_apart, rest_part}
+use Rattle.plans.specs.Questions.{Question, across, all_tables, cost_of}
 use Rattle.catalogue.specs.Within.{inside, near}
 use Rattle.catalogue.proofs.OneWay.{CostsBothWays}
 use Rattle.catalogue.proofs.Inside.{across_given, across_one, inside_cut, inside_one}
-use Rattle.catalogue.proofs.Near.{near_more}
+use Rattle.catalogue.proofs.Near.{near_sum}
 
 -- the costs across are what the costs inside both have more than those inside either, of the given tables
 pub cut_given : (Q : Question) → CostsBothWays Q → (all L B l b : ℕ) → all ≡ all_tables Q → bit_and L B ≡ 0 → l ≡ bit_and L all → b ≡ bit_and B all
@@ -43,9 +43,16 @@ module _ (Q : Question) (R t r : ℕ) (in_set : has R t ≡ true) (rest_is : r �
   pub rest_below : r < R
   rest_below = omega (arith, whole, pow_pos t)
 
-  pub near_from : (n : ℕ) → n ≡ near Q r → (j : ℕ) → j < Q.count → (has n j || is_some (tie_of Q t j)) ≡ linked Q R (2 ^ j)
-  near_from n e j l =
-      ap (λ (x : ℕ). has x j || is_some (tie_of Q t j)) e ∙ near_more Q r t j (and_comm r (2 ^ t) ∙ apart) t_given l ∙ ap (λ (x : ℕ). linked Q x (2 ^ j)) whole
+  pub one_alone : (o : ℕ) → o ≡ R - bit_and R r → o ≡ 2 ^ t
+  one_alone o e =
+      let part : bit_and R r ≡ r = and_comm R r ∙ subst (λ (x : ℕ). bit_and x R ≡ x) (sym rest_is) (rest_part (2 ^ t) R (one_part R t in_set)) in
+      omega (arith, whole)
+
+  pub one_below : (r ≡ 0 → ⊥) → 2 ^ t < R
+  one_below some = omega (arith, whole, some)
+
+  pub near_from : (m n : ℕ) → m ≡ near Q r → n ≡ near Q (2 ^ t) → bit_or m n ≡ near Q R
+  near_from m n e f = ap₂ bit_or e f ∙ sym (near_sum Q r (2 ^ t) (and_comm r (2 ^ t) ∙ apart)) ∙ ap (near Q) whole
 
   pub inside_from : CostsBothWays Q → (n v : ℕ) → n ≡ inside Q r → v ≡ sum_below (λ j. cond (has r j) (cost_of Q t j) 0) Q.count → n + v ≡ inside Q R
   inside_from both_ways n v e sum =

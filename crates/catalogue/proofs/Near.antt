@@ -1,11 +1,11 @@
 -- The tables that a tie links to a set, and links by them.
 use Rattle.std.proofs.Common.{◌≡◌, ℕ, zero, suc, ◌+◌, ◌^◌, ◌<◌, Bool, true, false, not, ◌&&◌, ◌||◌, eqb, ltb, is_some, sym, refl, ap, ◌∙◌, ap₂, ⊎_elim, pow-suc, arith}
-use lib.Bits.{bit_and}
+use lib.Bits.{bit_and, bit_or}
 use lib.Count.{count_trailing_zeros}
 use Rattle.std.proofs.Math.Bool.{and-false, and-true}
 use Rattle.std.proofs.lemmas.Bool.{cases_eq, and_parts, and_from, or_cases, or_left, or_right, eq-eqb, ne_eqb, eqb-true, lt-ltb, true≢false, false≢true}
-use Rattle.sets.specs.Sets.{has}
-use Rattle.sets.proofs.Bits.{has_and, has_sum, has_pow, has_pow_self, zero_bits, same_bits}
+use Rattle.sets.specs.Sets.{any_below, has}
+use Rattle.sets.proofs.Bits.{has_and, has_or, has_sum, has_pow, has_pow_self, zero_bits, same_bits}
 use Rattle.sets.proofs.Lowest.{lowest_in}
 use Rattle.plans.specs.Questions.{Question, all_tables, tie_of, linked}
 use Rattle.plans.proofs.Links.{any_tells, linked_by}
@@ -66,20 +66,15 @@ pub near_has : (Q : Question) (A j : ℕ) → has (near Q A) j ≡ (ltb j Q.coun
 unfolding near
 near_has Q A j = sum_has (λ k. linked Q A (2 ^ k)) Q.count j
 
-linked_ones : (Q : Question) (t j : ℕ) → t < Q.count → j < Q.count → is_some (tie_of Q t j) ≡ linked Q (2 ^ t) (2 ^ j)
-linked_ones Q t j t_given j_given = both_ways _ _
-    (λ e. linked_by Q (2 ^ t) (2 ^ j) t j t_given j_given (has_pow_self t) (has_pow_self j) e)
-    (λ e.
-    let l = link Q (2 ^ t) (2 ^ j) e in
-    let from = eqb-true t l.from (sym (has_pow t l.from) ∙ l.from_in) in
-    let to = eqb-true j l.to (sym (has_pow j l.to) ∙ l.to_in) in
-    ap₂ (λ (x y : ℕ). is_some (tie_of Q x y)) from to ∙ l.tied)
+with_ltb : (x a b : Bool) → (x && (a || b)) ≡ ((x && a) || (x && b))
+with_ltb true a b = refl
+with_ltb false a b = refl
 
--- what is near a set with a table more
-pub near_more : (Q : Question) (A t j : ℕ) → bit_and A (2 ^ t) ≡ 0 → t < Q.count → j < Q.count → (has (near Q A) j || is_some (tie_of Q t j)) ≡ linked Q (A + 2 ^ t) (2 ^ j)
-near_more Q A t j apart t_given j_given =
-    ap₂ ◌||◌ (near_has Q A j ∙ ap (λ (b : Bool). b && linked Q A (2 ^ j)) (lt-ltb j Q.count j_given)) (linked_ones Q t j t_given j_given)
-    ∙ sym (linked_sum Q A (2 ^ t) (2 ^ j) apart)
+pub near_sum : (Q : Question) (A B : ℕ) → bit_and A B ≡ 0 → near Q (A + B) ≡ bit_or (near Q A) (near Q B)
+near_sum Q A B apart = same_bits (near Q (A + B)) (bit_or (near Q A) (near Q B)) (λ j.
+    near_has Q (A + B) j ∙ ap (λ (b : Bool). ltb j Q.count && b) (linked_sum Q A B (2 ^ j) apart)
+    ∙ with_ltb (ltb j Q.count) (linked Q A (2 ^ j)) (linked Q B (2 ^ j))
+    ∙ sym (has_or (near Q A) (near Q B) j ∙ ap₂ ◌||◌ (near_has Q A j) (near_has Q B j)))
 
 pub near_none : (Q : Question) → near Q 0 ≡ 0
 near_none Q = same_bits (near Q 0) 0 (λ j.
@@ -127,3 +122,15 @@ linked_given Q A B = both_ways (linked Q G B) (linked Q A B)
   where
     G : ℕ
     G = bit_and A (all_tables Q)
+
+-- a table near a set is one that is tied to one of it, since a tie is found whichever way its tables are named
+pub linked_to : (Q : Question) → ((i j : ℕ) → tie_of Q i j ≡ tie_of Q j i) → (R j : ℕ) → j < Q.count → any_below (λ i. has R i && is_some (tie_of Q j i)) Q.count ≡ linked Q R (2 ^ j)
+linked_to Q turned R j l = both_ways _ _
+    (λ e.
+    let x = (any_tells _ Q.count).0 e in
+    let a = and_parts (has R x.0) _ x.2 in
+    linked_by Q R (2 ^ j) x.0 j x.1 l a.0 (has_pow_self j) (ap is_some (turned x.0 j) ∙ a.1))
+    (λ e.
+    let k = link Q R (2 ^ j) e in
+    let same : j ≡ k.to = eqb-true j k.to (sym (has_pow j k.to) ∙ k.to_in) in
+    (any_tells _ Q.count).1 (k.from, k.from_given, and_from (has R k.from) _ k.from_in (ap is_some (ap (λ (i : ℕ). tie_of Q i k.from) same ∙ turned k.to k.from) ∙ k.tied)))

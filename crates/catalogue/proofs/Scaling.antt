@@ -1,11 +1,10 @@
--- A division that rounds up.
-use Rattle.std.proofs.Common.{◌≡◌, ℕ, ◌+◌, ◌-◌, ◌*◌, ◌/◌, ◌%◌, ◌<◌, ◌≤◌, min, add-mul, one-mul, arith}
-use Rattle.std.proofs.lemmas.Grind.{div_ceil_times}
-use Rattle.std.proofs.lemmas.Nat.{div_below, le-div}
+-- A share of rows is no more than the rows.
+use Rattle.std.proofs.Common.{ℕ, ◌+◌, ◌-◌, ◌*◌, ◌<◌, ◌≤◌, add-mul, mul-le-mul_left, one-mul, arith}
+use Rattle.std.proofs.lemmas.Nat.{div_below}
 use Rattle.plans.specs.Questions.{up}
 
-pub up_is : (n q : ℕ) → 1 ≤ q → n / q + min 1 (n % q) ≡ up n q
-up_is n q some =
-    let near : (n ≤ (n / q + min 1 (n % q)) * q) × ((n / q + min 1 (n % q)) * q < n + q) = div_ceil_times n q some in
-    let over : n + (q - 1) < (n / q + min 1 (n % q) + 1) * q = omega (arith, near.0, add-mul (n / q + min 1 (n % q)) 1 q, one-mul q) in
-    omega (arith, le-div (n / q + min 1 (n % q)) (n + (q - 1)) q some (omega (arith, near.1)), div_below (n + (q - 1)) q (n / q + min 1 (n % q) + 1) some over)
+pub up_le : (n p q : ℕ) → 1 ≤ q → p ≤ q → up (n * p) q ≤ n
+up_le n p q some part =
+    let less : n * p ≤ n * q = mul-le-mul_left n part in
+    let under : n * p + (q - 1) < (n + 1) * q = omega (arith, add-mul n 1 q, one-mul q) in
+    omega (arith, div_below (n * p + (q - 1)) q (n + 1) some under)

@@ -14,4 +14,4 @@ inside Q R = sum_below (λ i. cond (has R i) (sum_below (λ j. cond (has R j) (c
 
 -- The cut of the tables R.
 abbrev pub IsCut : Question → (R : ℕ) → Cut → Type 0
-IsCut Q R c = (c.near.bits ≡ near Q R) × (c.inside ≡ inside Q R) × (c.inside ≤ 655350 * R)
+IsCut Q R c = (c.near ≡ near Q R) × (c.inside ≡ inside Q R) × (c.inside ≤ 655350 * R)

@@ -1,17 +1,17 @@
 // Links and costs of any cut of the tables, by look-ups.
-ghost use Rattle.std.specs.Prelude.{◌≡◌, ℕ, ◌<◌, ◌≤◌, length};
+ghost use Rattle.std.specs.Prelude.{◌≡◌, ℕ, ◌*◌, ◌<◌, ◌≤◌, length};
 ghost use Rattle.std.specs.List.{HoldsAt};
 ghost use Rattle.catalogue.specs.Asked.{asked};
-ghost use Rattle.catalogue.specs.Within.{IsCut};
+ghost use Rattle.catalogue.specs.Within.{IsCut, inside as inside_of, near as near_of};
 ghost use Rattle.plans.specs.Questions.{across as across_of, all_tables, linked as linked_by};
 
 use crate::Catalogue;
 use sets::SmallSet;
 
-// Of a set of tables those that a tie links to it, and the costs of the ties inside it, added up.
+// Of a set of tables the number of those that a tie links to it, and the costs of the ties inside it, added up.
 #[derive(Clone, Copy)]
 struct Cut {
-    near: SmallSet,
+    near: u16,
     inside: u32,
 }
 
@@ -44,8 +44,7 @@ impl<'a> Cuts<'a> {
         ensures { result ≡ linked_by (asked self.now.catalogue.now) left.bits right.bits }
     {
         let given = left.intersection(self.all);
-        let near = self.cuts[given.bits() as usize].near;
-        !near.intersection(right).is_empty()
+        self.cuts[given.bits() as usize].near & right.bits() != 0
     }
 
     // The costs of all ties between the left tables and the right, added up.
@@ -63,26 +62,41 @@ impl<'a> Cuts<'a> {
     }
 }
 
-// The cut of a set, from that of its tables but the lowest.
-fn cut_of(catalogue: &Catalogue, cuts: &[Cut; 1024], tables: SmallSet) -> Cut
+// The tables that a tie links to `tables`.
+fn neighbours(catalogue: &Catalogue, tables: SmallSet) -> SmallSet
+    ensures { result.bits ≡ near_of (asked catalogue.now) tables.bits }
+{
+    catalogue.tables_where(|other| catalogue.tied_to(other, tables))
+}
+
+// The same as a number, from the cuts of the smaller sets.
+fn near_set(catalogue: &Catalogue, cuts: &[Cut; 1024], tables: SmallSet) -> u16
     requires given { tables.bits ≤ all_tables (asked catalogue.now) }
     requires below { (x : ℕ) → x < tables.bits → HoldsAt (IsCut (asked catalogue.now) x) cuts.now x }
-    ensures { IsCut (asked catalogue.now) tables.bits result }
+    ensures { result ≡ near_of (asked catalogue.now) tables.bits }
 {
     let Some(table) = tables.lowest() else {
-        return Cut {
-            near: SmallSet::empty(),
-            inside: 0,
-        };
+        return 0;
     };
     let rest = tables.without_member(table);
-    let below = cuts[rest.bits() as usize];
-    Cut {
-        near: catalogue.tables_where(|other| {
-            below.near.contains(other) || catalogue.tie_of(table, other).is_some()
-        }),
-        inside: below.inside + catalogue.costs_to(table, rest),
+    if rest.is_empty() {
+        return neighbours(catalogue, tables).bits();
     }
+    cuts[rest.bits() as usize].near | cuts[tables.without(rest).bits() as usize].near
+}
+
+// The costs of the ties inside a set, from the cuts of the smaller sets.
+fn inside_set(catalogue: &Catalogue, cuts: &[Cut; 1024], tables: SmallSet) -> u32
+    requires given { tables.bits ≤ all_tables (asked catalogue.now) }
+    requires below { (x : ℕ) → x < tables.bits → HoldsAt (IsCut (asked catalogue.now) x) cuts.now x }
+    ensures value { result ≡ inside_of (asked catalogue.now) tables.bits }
+    ensures few { result ≤ 655350 * tables.bits }
+{
+    let Some(table) = tables.lowest() else {
+        return 0;
+    };
+    let rest = tables.without_member(table);
+    cuts[rest.bits() as usize].inside + catalogue.costs_to(table, rest)
 }
 
 // The cut of each of the sets up to `all`.
@@ -91,14 +105,12 @@ fn cuts_up_to(catalogue: &Catalogue, all: SmallSet) -> [Cut; 1024]
     ensures all { length result ≡ 1024 }
     ensures listed { (x : ℕ) → x ≤ all.bits → HoldsAt (IsCut (asked catalogue.now) x) result x }
 {
-    let none = Cut {
-        near: SmallSet::empty(),
-        inside: 0,
-    };
-    let mut cuts = [none; 1024];
+    let mut cuts = [Cut { near: 0, inside: 0 }; 1024];
     for bits in 0..all.bits() + 1 {
         if let Some(tables) = SmallSet::from_bits(bits) {
-            cuts[bits as usize] = cut_of(catalogue, &cuts, tables);
+            let near = near_set(catalogue, &cuts, tables);
+            let inside = inside_set(catalogue, &cuts, tables);
+            cuts[bits as usize] = Cut { near, inside };
         }
     }
     cuts

@@ -39,7 +39,7 @@ impl Catalogue {
     }
 
     // Whether a table is tied to one of a set.
-    fn tied_to(&self, table: u8, others: SmallSet) -> bool
+    pub(crate) fn tied_to(&self, table: u8, others: SmallSet) -> bool
         ensures { result ≡ any_below (λ j. has others.bits j && is_some (tie_of (asked self.now) table j)) self.now.count }
     {
         (0..self.count).any(|other| others.contains(other) && self.tie_of(table, other).is_some())

@@ -7,15 +7,14 @@ ghost use Rattle.plans.specs.Questions.{across as across_of, base as base_of, ch
 use crate::{Catalogue, MOST_ROWS};
 use sets::SmallSet;
 
-// n × p / q, rounded up.
-#[tactic(auto, using(crate::proofs::Scaling::up_is))]
+// n × p / q, rounded up; `div_ceil` would divide twice.
 fn scaled(n: u64, p: u16, q: u16) -> u64
     requires whole { 1 ≤ q }
     requires part { p ≤ q }
     ensures value { result ≡ up (n * p) q }
     ensures bound { result ≤ n }
 {
-    (n as u128 * p as u128).div_ceil(q as u128) as u64
+    ((n as u128 * p as u128 + (q - 1) as u128) / q as u128) as u64
 }
 
 impl Catalogue {

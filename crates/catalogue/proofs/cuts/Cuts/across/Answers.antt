@@ -9,33 +9,31 @@ use Rattle.catalogue.proofs.Cutting.{cut_given}
 use Rattle.catalogue.proofs.cuts.Cuts.across.Goals as goal
 use Rattle.catalogue.proofs.cuts.Cuts.across.Goals.{After-bits-other}
 
-parts : (c : After-bits-other) (d e f : Cut) → (get_or c.args.self.now.cuts (bit_or c.bits-one.result c.bits-other.result) d).inside
-    ≡ (get_or c.args.self.now.cuts c.bits-one.result e).inside + (get_or c.args.self.now.cuts c.bits-other.result f).inside + across (asked c.args.self.now.catalogue.now) c.args.left.bits c.args.right.bits
-parts c d e f =
+parts : (c : After-bits-other) → (get_or c.args.self.now.cuts (bit_or c.bits-one.result c.bits-other.result) (record { near = 0; inside = 0 })).inside
+    ≡ (get_or c.args.self.now.cuts c.bits-one.result (record { near = 0; inside = 0 })).inside + (get_or c.args.self.now.cuts c.bits-other.result (record { near = 0; inside = 0 })).inside + across (asked c.args.self.now.catalogue.now) c.args.left.bits c.args.right.bits
+parts c =
     let s = c.args.self.now in
+    let none : Cut = record { near = 0; inside = 0 } in
     let l = c.bits-one.result in
     let b = c.bits-other.result in
     let left = c.bits-one.ensures ∙ c.intersection-2.ensures in
     let right = c.bits-other.ensures ∙ c.intersection-3.ensures in
     let apart = sym c.intersection.ensures ∙ eqb-true c.intersection.result.bits 0 (sym c.if-not-is_empty.ensures) in
     let cut = cut_given (asked s.catalogue.now) (costs_both_ways s.catalogue.now) s.all.bits c.args.left.bits c.args.right.bits l b s.given apart left right in
-    omega (arith, cut.1, (s.listed (bit_or l b) cut.0 d).1, (s.listed l (omega (arith, left, and_le_r c.args.left.bits s.all.bits)) e).1, (s.listed b (omega (arith, right, and_le_r c.args.right.bits s.all.bits)) f).1)
+    omega (arith, cut.1, (s.listed (bit_or l b) cut.0 none).1, (s.listed l (omega (arith, left, and_le_r c.args.left.bits s.all.bits)) none).1, (s.listed b (omega (arith, right, and_le_r c.args.right.bits s.all.bits)) none).1)
 
 few : (c : After-bits-other) → bit_or c.bits-one.result c.bits-other.result < 1024
 few c =
     or_lt 10 c.bits-one.result c.bits-other.result (omega (arith, c.bits-one.ensures, c.intersection-2.result.few)) (omega (arith, c.bits-other.ensures, c.intersection-3.result.few))
 
-pub listed : goal.listed
-listed c = omega (arith, few (goal.at.listed c).After-bits-other, c.args.self.now.all_cuts)
-
 pub bounds-self-one : goal.bounds-self-one
 bounds-self-one c = few (goal.at.bounds-self-one c).After-bits-other
 
 pub overflow_sub-result : goal.overflow_sub-result
-overflow_sub-result c = omega (arith, parts (goal.at.overflow_sub-result c).After-bits-other c.index-self-one.result c.index-self-one-2.result c.index-self-one.result)
+overflow_sub-result c = omega (arith, parts (goal.at.overflow_sub-result c).After-bits-other)
 
 pub overflow_sub-result-2 : goal.overflow_sub-result-2
-overflow_sub-result-2 c = omega (arith, parts (goal.at.overflow_sub-result-2 c).After-bits-other c.index-self-one.result c.index-self-one-2.result c.index-self-other.result)
+overflow_sub-result-2 c = omega (arith, parts (goal.at.overflow_sub-result-2 c).After-bits-other)
 
 pub returns : goal.returns
-returns c = omega (arith, parts (goal.at.returns c).After-bits-other c.index-self-one.result c.index-self-one-2.result c.index-self-other.result)
+returns c = omega (arith, parts (goal.at.returns c).After-bits-other)

@@ -1,4 +1,4 @@
-use Rattle.std.proofs.Common.{◌≡◌, ℕ, not, eqb, sym, ap, ◌∙◌, arith}
+use Rattle.std.proofs.Common.{◌≡◌, ℕ, not, eqb, sym, ap, ◌∙◌, ap₂, arith}
 use lib.Bits.{bit_and, and_le_r}
 use Rattle.plans.specs.Questions.{linked}
 use Rattle.catalogue.specs.Asked.{asked}
@@ -10,9 +10,8 @@ returns c =
     let s = c.args.self.now in
     let Q = asked s.catalogue.now in
     let L = c.args.left.bits in
-    let B = c.args.right.bits in
     let one = c.bits.result in
+    let other = c.bits-2.result in
     let given : one ≡ bit_and L s.all.bits = c.bits.ensures ∙ c.intersection-given.ensures in
-    let listed = s.listed one (omega (arith, and_le_r L s.all.bits)) c.index-self-bits.result in
-    ap not (c.is_empty.ensures ∙ ap (λ (x : ℕ). eqb x 0) (c.intersection.ensures ∙ ap (λ (x : ℕ). bit_and x B) listed.0))
-    ∙ sym (linked_near Q one B) ∙ ap (λ (x : ℕ). linked Q x B) (given ∙ ap (bit_and L) s.given) ∙ linked_given Q L B
+    ap (λ (x : ℕ). not (eqb (bit_and x other) 0)) (s.listed one (omega (arith, and_le_r L s.all.bits)) (record { near = 0; inside = 0 })).0
+    ∙ sym (linked_near Q one other) ∙ ap₂ (linked Q) (given ∙ ap (bit_and L) s.given) c.bits-2.ensures ∙ linked_given Q L c.args.right.bits
