@@ -7,9 +7,14 @@ use Rattle.sets.proofs.Bits.{has_or, has_part, has_past, part_has, part_le}
 use Rattle.sets.proofs.Parts.{meet_part, meet_part_left, one_le, one_part, parts_apart, rest_apart, rest_part}
 use Rattle.plans.specs.Questions.{Question, across, all_tables, cost_of}
 use Rattle.catalogue.specs.Within.{inside, near}
+use Rattle.catalogue.specs.declared.cuts.Cut.{Cut}
 use Rattle.catalogue.proofs.OneWay.{CostsBothWays}
 use Rattle.catalogue.proofs.Inside.{across_given, across_one, inside_cut, inside_one}
 use Rattle.catalogue.proofs.Near.{near_sum}
+
+-- what stands where no set is listed
+abbrev pub no_cut : Cut
+no_cut = record { near = 0; inside = 0 }
 
 -- the costs across are what the costs inside both have more than those inside either, of the given tables
 pub cut_given : (Q : Question) → CostsBothWays Q → (all L B l b : ℕ) → all ≡ all_tables Q → bit_and L B ≡ 0 → l ≡ bit_and L all → b ≡ bit_and B all

@@ -8,6 +8,7 @@ use crate::{Catalogue, MOST_ROWS};
 use sets::SmallSet;
 
 // n × p / q, rounded up; `div_ceil` would divide twice.
+#[tactic(auto, using(crate::proofs::Scaling::up_le))]
 fn scaled(n: u64, p: u16, q: u16) -> u64
     requires whole { 1 ≤ q }
     requires part { p ≤ q }

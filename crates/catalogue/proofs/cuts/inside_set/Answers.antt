@@ -3,7 +3,7 @@ use Rattle.catalogue.specs.Asked.{asked}
 use Rattle.catalogue.specs.Within.{inside}
 use Rattle.catalogue.proofs.Inside.{inside_none}
 use Rattle.catalogue.proofs.OneWay.{costs_both_ways}
-use Rattle.catalogue.proofs.Cutting.{inside_from, rest_below}
+use Rattle.catalogue.proofs.Cutting.{no_cut, inside_from, rest_below}
 use Rattle.catalogue.proofs.cuts.inside_set.Goals as goal
 
 pub returns-in_default : goal.returns-in_default
@@ -16,7 +16,7 @@ overflow_add-result c =
     let Q = asked c.args.catalogue.now in
     let t = c.in-Some.ensures in
     let less = rest_below Q c.args.tables.bits c.in-Some.table c.without_member-rest.result.bits t.0 (c.without_member-rest.ensures.inside t.0) c.requires.given in
-    let below = c.requires.below c.bits.result (omega (arith, less, c.bits.ensures)) (record { near = 0; inside = 0 }) in
+    let below = c.requires.below c.bits.result (omega (arith, less, c.bits.ensures)) no_cut in
     record { fits = omega (arith, less, c.bits.ensures, below.2, c.costs_to.ensures.bound, c.args.tables.few) }
 
 pub returns : goal.returns
@@ -29,7 +29,7 @@ returns c =
     let r = c.without_member-rest.result.bits in
     let rest = c.without_member-rest.ensures.inside t.0 in
     let less = rest_below Q R i r t.0 rest c.requires.given in
-    let below = c.requires.below c.bits.result (omega (arith, less, c.bits.ensures)) (record { near = 0; inside = 0 }) in
+    let below = c.requires.below c.bits.result (omega (arith, less, c.bits.ensures)) no_cut in
     record {
       value = inside_from Q R i r t.0 rest c.requires.given (costs_both_ways q) _ c.costs_to.result (below.1 ∙ ap (inside Q) c.bits.ensures) c.costs_to.ensures.value;
       few = omega (arith, less, c.bits.ensures, below.2, c.costs_to.ensures.bound);

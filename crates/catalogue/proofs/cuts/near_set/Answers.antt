@@ -3,7 +3,7 @@ use Rattle.std.proofs.lemmas.Bool.{eqb-false}
 use Rattle.catalogue.specs.Asked.{asked}
 use Rattle.catalogue.specs.Within.{near}
 use Rattle.catalogue.proofs.Near.{near_none}
-use Rattle.catalogue.proofs.Cutting.{near_from, one_alone, one_below, rest_below}
+use Rattle.catalogue.proofs.Cutting.{no_cut, near_from, one_alone, one_below, rest_below}
 use Rattle.catalogue.proofs.cuts.near_set.Goals as goal
 
 pub returns-in_default : goal.returns-in_default
@@ -20,5 +20,5 @@ returns c =
     let less = rest_below Q R i r t.0 rest c.requires.given in
     let alone = c.bits-3.ensures ∙ one_alone Q R i r t.0 rest c.requires.given c.without.result.bits c.without.ensures in
     let single = one_below Q R i r t.0 rest c.requires.given (eqb-false r 0 (sym c.if-is_empty.ensures)) in
-    near_from Q R i r t.0 rest c.requires.given _ _ ((c.requires.below c.bits-2.result (omega (arith, less, c.bits-2.ensures)) (record { near = 0; inside = 0 })).0 ∙ ap (near Q) c.bits-2.ensures)
-    ((c.requires.below c.bits-3.result (omega (arith, single, alone)) (record { near = 0; inside = 0 })).0 ∙ ap (near Q) alone)
+    near_from Q R i r t.0 rest c.requires.given _ _ ((c.requires.below c.bits-2.result (omega (arith, less, c.bits-2.ensures)) no_cut).0 ∙ ap (near Q) c.bits-2.ensures)
+    ((c.requires.below c.bits-3.result (omega (arith, single, alone)) no_cut).0 ∙ ap (near Q) alone)

@@ -3,24 +3,22 @@ use lib.Bits.{bit_or, and_le_r, or_lt}
 use Rattle.std.proofs.lemmas.Bool.{eqb-true}
 use Rattle.plans.specs.Questions.{across}
 use Rattle.catalogue.specs.Asked.{asked}
-use Rattle.catalogue.specs.declared.cuts.Cut.{Cut}
 use Rattle.catalogue.proofs.OneWay.{costs_both_ways}
-use Rattle.catalogue.proofs.Cutting.{cut_given}
+use Rattle.catalogue.proofs.Cutting.{no_cut, cut_given}
 use Rattle.catalogue.proofs.cuts.Cuts.across.Goals as goal
 use Rattle.catalogue.proofs.cuts.Cuts.across.Goals.{After-bits-other}
 
-parts : (c : After-bits-other) → (get_or c.args.self.now.cuts (bit_or c.bits-one.result c.bits-other.result) (record { near = 0; inside = 0 })).inside
-    ≡ (get_or c.args.self.now.cuts c.bits-one.result (record { near = 0; inside = 0 })).inside + (get_or c.args.self.now.cuts c.bits-other.result (record { near = 0; inside = 0 })).inside + across (asked c.args.self.now.catalogue.now) c.args.left.bits c.args.right.bits
+parts : (c : After-bits-other) → (get_or c.args.self.now.cuts (bit_or c.bits-one.result c.bits-other.result) no_cut).inside
+    ≡ (get_or c.args.self.now.cuts c.bits-one.result no_cut).inside + (get_or c.args.self.now.cuts c.bits-other.result no_cut).inside + across (asked c.args.self.now.catalogue.now) c.args.left.bits c.args.right.bits
 parts c =
     let s = c.args.self.now in
-    let none : Cut = record { near = 0; inside = 0 } in
     let l = c.bits-one.result in
     let b = c.bits-other.result in
     let left = c.bits-one.ensures ∙ c.intersection-2.ensures in
     let right = c.bits-other.ensures ∙ c.intersection-3.ensures in
     let apart = sym c.intersection.ensures ∙ eqb-true c.intersection.result.bits 0 (sym c.if-not-is_empty.ensures) in
     let cut = cut_given (asked s.catalogue.now) (costs_both_ways s.catalogue.now) s.all.bits c.args.left.bits c.args.right.bits l b s.given apart left right in
-    omega (arith, cut.1, (s.listed (bit_or l b) cut.0 none).1, (s.listed l (omega (arith, left, and_le_r c.args.left.bits s.all.bits)) none).1, (s.listed b (omega (arith, right, and_le_r c.args.right.bits s.all.bits)) none).1)
+    omega (arith, cut.1, (s.listed (bit_or l b) cut.0 no_cut).1, (s.listed l (omega (arith, left, and_le_r c.args.left.bits s.all.bits)) no_cut).1, (s.listed b (omega (arith, right, and_le_r c.args.right.bits s.all.bits)) no_cut).1)
 
 few : (c : After-bits-other) → bit_or c.bits-one.result c.bits-other.result < 1024
 few c =
