@@ -1,6 +1,7 @@
 -- The size of a set from that of all but its lowest table.
 use Rattle.std.proofs.Common.{◌≡◌, ℕ, zero, suc, ◌+◌, ◌-◌, ◌*◌, ◌^◌, ◌<◌, ◌≤◌, min, Bool, true, false, cond, not, ◌&&◌, List, ◌∷◌, Some, None, Option, sym, refl, ap, ◌∙◌, ap₂, ⊎_elim, arith}
 use lib.Bits.{bit_and}
+use Rattle.std.proofs.Math.Bool.{and-true}
 use Rattle.std.proofs.lemmas.Bool.{cases_Bool, cases_eq, ne_eqb}
 use Rattle.sets.specs.Sets.{has}
 use Rattle.sets.proofs.Bits.{has_and, has_pow, has_rest}
@@ -57,11 +58,7 @@ module _ (Q : Question) (R S k : ℕ) (lowest : Lowest R k) where
   rest_has : (i : ℕ) → (i ≡ k → ⊥) → has rest i ≡ has R i
   unfolding rest
   rest_has i ne =
-      has_rest (2 ^ k) R i (one_part R k lowest.0) ∙ ap (λ (b : Bool). has R i && not b) (has_pow k i ∙ ne_eqb k i (λ e. ne (sym e))) ∙ whole (has R i)
-    where
-      whole : (b : Bool) → (b && true) ≡ b
-      whole true = refl
-      whole false = refl
+      has_rest (2 ^ k) R i (one_part R k lowest.0) ∙ ap (λ (b : Bool). has R i && not b) (has_pow k i ∙ ne_eqb k i (λ e. ne (sym e))) ∙ and-true (has R i)
 
   rest_none : (i : ℕ) → i < k + 1 → has rest i ≡ false
   unfolding rest
@@ -72,12 +69,8 @@ module _ (Q : Question) (R S k : ℕ) (lowest : Lowest R k) where
   unfolding rest
   rest_size l =
       ap (size_of Q (bit_and S rest)) (sym (from_all Q.count rest) ∙ from_skip (k + 1) Q.count rest (omega arith) rest_none)
-      ∙ size_same Q _ (k + 1) Q.count rest (bit_and S rest) S refl (λ i u t. has_and S rest i ∙ ap (λ (b : Bool). has S i && b) t ∙ whole (has S i))
+      ∙ size_same Q _ (k + 1) Q.count rest (bit_and S rest) S refl (λ i u t. has_and S rest i ∙ ap (λ (b : Bool). has S i && b) t ∙ and-true (has S i))
       ∙ ap (size_of Q S) (from_same _ (k + 1) Q.count rest R refl (λ i u. rest_has i (omega arith)))
-    where
-      whole : (b : Bool) → (b && true) ≡ b
-      whole true = refl
-      whole false = refl
 
   pub size_from_rest : (s r : ℕ) → k < Q.count → s ≡ size Q (R - 2 ^ k) (bit_and S (R - 2 ^ k))
       → r ≡ min 16777215 (narrowed Q k (from (k + 1) Q.count R) (base Q S k * s)) → r ≡ size Q R S

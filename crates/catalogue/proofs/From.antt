@@ -1,6 +1,17 @@
 -- The members of a set from some number on, one by one; and sizes along them.
-use Rattle.std.proofs.Common.{◌≡◌, ℕ, suc, ◌+◌, ◌-◌, ◌*◌, ◌<◌, ◌≤◌, min, Bool, true, false, cond, List, [], ◌∷◌, Some, None, filter, Option, sym, refl, ap, ◌∙◌, arith}
-use Rattle.std.specs.List.{range_with_len}
+use Rattle.std.proofs.Common.{◌≡◌, ℕ, suc, ◌+◌, ◌-◌, ◌*◌, ◌<◌, ◌≤◌, min, Bool, true, false, cond, List, [], ◌∷◌, ◌++◌, Some, None, filter, Option, sym, refl, ap, ◌∙◌, arith}
+use Rattle.std.specs.List.{range_with_len, FoldsTo}
+use denote.Param.Members.{Mut}
+use denote.Ref.{Bor}
+use Rattle.std.specs.Fn.{Called, CalledAt}
+use Rattle.std.specs.Iterator.{Drains}
+use Rattle.std.specs.Iterator.Adapters.{filter_callee, filter_source, filter_steps}
+use Rattle.std.specs.declared.iter.Filter.{Filter}
+use Rattle.std.specs.declared.ops.Range.{Range}
+use Rattle.std.proofs.iter.Yields.{nat_range_steps}
+use Rattle.std.proofs.lemmas.Fn.{fold_over}
+use Rattle.std.proofs.lemmas.Iterator.{YieldsList-from_range}
+use Rattle.std.proofs.lemmas.Iterator.Consumers.{YieldsList-from_filter}
 use Rattle.sets.specs.Sets.{has, members}
 use Rattle.plans.specs.Questions.{Question, tie_of, up, base, narrowed, size_of, size}
 use Rattle.plans.specs.declared.predicates.Tie.{Tie}
@@ -37,16 +48,33 @@ module _ (Q : Question) (i : ℕ) where
       go None = refl
       go (Some t) = refl
 
-  pub narrowed_in : (j m R n r : ℕ) → j < m → true ≡ has R j → r ≡ tied_rows (tie_of Q i j) n → narrowed Q i (from (j + 1) m R) r ≡ narrowed Q i (from j m R) n
-  narrowed_in j m R n r h e v =
-      ap (narrowed Q i (from (j + 1) m R)) v ∙ sym (one_tie j (from (j + 1) m R) n) ∙ ap (λ (js : List ℕ). narrowed Q i js n) (sym (from_in j m R h (sym e)))
-
-  pub narrowed_out : (j m R n : ℕ) → j < m → false ≡ has R j → narrowed Q i (from (j + 1) m R) n ≡ narrowed Q i (from j m R) n
-  narrowed_out j m R n h e = ap (λ (js : List ℕ). narrowed Q i js n) (sym (from_out j m R h (sym e)))
-
-  pub narrowed_end : (j m R n : ℕ) → m ≤ j → narrowed Q i (from j m R) n ≡ n
+  -- a tie more
+  pub narrowed_more : (js : List ℕ) (j n r : ℕ) → r ≡ tied_rows (tie_of Q i j) (narrowed Q i js n) → r ≡ narrowed Q i (js ++ (j ∷ [])) n
   unfolding narrowed
-  narrowed_end j m R n h = ap (λ (js : List ℕ). narrowed Q i js n) (from_none j m R h)
+  narrowed_more js j n r e = e ∙ go js n
+    where
+      go : (js : List ℕ) (n : ℕ) → tied_rows (tie_of Q i j) (narrowed Q i js n) ≡ narrowed Q i (js ++ (j ∷ [])) n
+      go [] n = sym (one_tie j [] n)
+      go (k ∷ js) n =
+          ap (tied_rows (tie_of Q i j)) (one_tie k js n) ∙ go js (tied_rows (tie_of Q i k) n) ∙ sym (one_tie k (js ++ (j ∷ [])) n)
+
+  pub narrowed_start : (n : ℕ) → n ≡ narrowed Q i [] n
+  unfolding narrowed
+  narrowed_start n = refl
+
+  -- What `filter` and `fold` give over the numbers from k up to m, where the closures compute R's members and one tie.
+  pub narrowed_over : {P F : Type 0} {test : Mut P (Bor ℕ × Unit {0}) Bool} {each : Mut F (ℕ × (ℕ × Unit {0})) ℕ} (s : Filter (Range ℕ) P) {cp : P} {cf : F} (k m R n r : ℕ)
+      → (xs : List ℕ) × (f : F) × Drains (filter_steps nat_range_steps test) s xs × FoldsTo {P = F × ℕ} (λ p x q. Called each p.0 (p.1, (x, tt)) q.1 q.0) (cf, n) xs (f, r)
+      → filter_source s ≡ record { start = k; end = m } → filter_callee s ≡ cp
+      → ((x : ℕ) (b : Bool) (q : P) → CalledAt test cp x b q → (q ≡ cp) × (b ≡ has R x))
+      → ((a x b : ℕ) (f : F) → Called each cf (a, (x, tt)) b f → (f ≡ cf) × (b ≡ tied_rows (tie_of Q i x) a) × (b ≤ a))
+      → (r ≡ narrowed Q i (from k m R) n) × (r ≤ n)
+  unfolding from
+  narrowed_over {test = test} {each = each} s {cp} {cf} k m R n r ran range_is p_is tests calls =
+      fold_over (filter_steps nat_range_steps test) (λ (x : ℕ). x) each (λ (js : List ℕ) (a : ℕ). (a ≡ narrowed Q i js n) × (a ≤ n)) cf
+      (λ js a x b f j c. let w = calls a x b f c in ((narrowed_more js x n b (w.1 ∙ ap (tied_rows (tie_of Q i x)) j.0), omega (arith, w.2, j.1)), w.0))
+      s (filter (has R) (range_with_len k (m - k))) n r (YieldsList-from_filter test (has R) (YieldsList-from_range k m (m - k) range_is refl) p_is tests).runs
+      (narrowed_start n, omega arith) ran
 
 -- ---- sizes
 

@@ -8,3 +8,4 @@ pub mod Near
 pub mod Inside
 pub mod Cutting
 pub mod Agreeing
+pub mod Following

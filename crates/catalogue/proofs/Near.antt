@@ -2,8 +2,9 @@
 use Rattle.std.proofs.Common.{◌≡◌, ℕ, zero, suc, ◌+◌, ◌^◌, ◌<◌, Bool, true, false, not, ◌&&◌, ◌||◌, eqb, ltb, is_some, sym, refl, ap, ◌∙◌, ap₂, ⊎_elim, pow-suc, arith}
 use lib.Bits.{bit_and, bit_or}
 use lib.Count.{count_trailing_zeros}
+use Rattle.std.proofs.Math.Bool.{and-false, and-true}
 use Rattle.std.proofs.lemmas.Bool.{cases_eq, and_parts, and_from, or_cases, or_left, or_right, eq-eqb, ne_eqb, eqb-true, lt-ltb, true≢false, false≢true}
-use Rattle.sets.specs.Sets.{has}
+use Rattle.sets.specs.Sets.{any_below, has}
 use Rattle.sets.proofs.Bits.{has_and, has_or, has_sum, has_pow, has_pow_self, zero_bits, same_bits}
 use Rattle.sets.proofs.Lowest.{lowest_in}
 use Rattle.plans.specs.Questions.{Question, all_tables, tie_of, linked}
@@ -77,11 +78,7 @@ near_sum Q A B apart = same_bits (near Q (A + B)) (bit_or (near Q A) (near Q B))
 
 pub near_none : (Q : Question) → near Q 0 ≡ 0
 near_none Q = same_bits (near Q 0) 0 (λ j.
-    near_has Q 0 j ∙ ap (λ (b : Bool). ltb j Q.count && b) (linked_none Q (2 ^ j)) ∙ sym (zero_bits j ∙ sym (no (ltb j Q.count))))
-  where
-    no : (x : Bool) → (x && false) ≡ false
-    no true = refl
-    no false = refl
+    near_has Q 0 j ∙ ap (λ (b : Bool). ltb j Q.count && b) (linked_none Q (2 ^ j)) ∙ sym (zero_bits j ∙ sym (and-false (ltb j Q.count))))
 
 -- ---- a link is a table near the one side that is on the other
 
@@ -116,11 +113,7 @@ linked_near Q A B = both_ways (linked Q A B) (not (eqb m 0))
 -- ---- only given tables count
 
 pub all_given : (Q : Question) (A i : ℕ) → i < Q.count → has (bit_and A (all_tables Q)) i ≡ has A i
-all_given Q A i l = has_and A (all_tables Q) i ∙ ap (λ (b : Bool). has A i && b) (full_has Q.count i ∙ lt-ltb i Q.count l) ∙ whole (has A i)
-  where
-    whole : (b : Bool) → (b && true) ≡ b
-    whole true = refl
-    whole false = refl
+all_given Q A i l = has_and A (all_tables Q) i ∙ ap (λ (b : Bool). has A i && b) (full_has Q.count i ∙ lt-ltb i Q.count l) ∙ and-true (has A i)
 
 pub linked_given : (Q : Question) (A B : ℕ) → linked Q (bit_and A (all_tables Q)) B ≡ linked Q A B
 linked_given Q A B = both_ways (linked Q G B) (linked Q A B)
@@ -129,3 +122,15 @@ linked_given Q A B = both_ways (linked Q G B) (linked Q A B)
   where
     G : ℕ
     G = bit_and A (all_tables Q)
+
+-- a table near a set is one that is tied to one of it, since a tie is found whichever way its tables are named
+pub linked_to : (Q : Question) → ((i j : ℕ) → tie_of Q i j ≡ tie_of Q j i) → (R j : ℕ) → j < Q.count → any_below (λ i. has R i && is_some (tie_of Q j i)) Q.count ≡ linked Q R (2 ^ j)
+linked_to Q turned R j l = both_ways _ _
+    (λ e.
+    let x = (any_tells _ Q.count).0 e in
+    let a = and_parts (has R x.0) _ x.2 in
+    linked_by Q R (2 ^ j) x.0 j x.1 l a.0 (has_pow_self j) (ap is_some (turned x.0 j) ∙ a.1))
+    (λ e.
+    let k = link Q R (2 ^ j) e in
+    let same : j ≡ k.to = eqb-true j k.to (sym (has_pow j k.to) ∙ k.to_in) in
+    (any_tells _ Q.count).1 (k.from, k.from_given, and_from (has R k.from) _ k.from_in (ap is_some (ap (λ (i : ℕ). tie_of Q i k.from) same ∙ turned k.to k.from) ∙ k.tied)))

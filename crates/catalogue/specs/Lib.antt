@@ -1,3 +1,4 @@
+pub mod Tables
 pub mod Fair
 pub mod Refusals
 pub mod Changes

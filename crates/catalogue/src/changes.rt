@@ -5,6 +5,7 @@ ghost use Rattle.catalogue.specs.Fair.{test_p, test_q, tie_p, tie_q};
 ghost use Rattle.catalogue.specs.Changes.{Follows, as_cost, corrected, empty, tabled, tested, tied};
 ghost use Rattle.plans.specs.Questions.{Question, tie_of};
 
+use crate::catalogues::Table;
 use crate::{Catalogue, ChangeRefusal};
 use plans::{Test, Tie};
 use pricing::Kind;
@@ -19,9 +20,11 @@ impl Catalogue {
     {
         Catalogue {
             count: 0,
-            rows: [0; 10],
-            ties: [None; 100],
-            tests: [None; 10],
+            tables: [Table {
+                rows: 0,
+                test: None,
+                ties: [None; 10],
+            }; 10],
         }
     }
 
@@ -37,7 +40,7 @@ impl Catalogue {
         if rows > MOST_ROWS {
             return Err(ChangeRefusal::TooManyRows);
         }
-        self.rows[number as usize] = rows;
+        self.tables[number as usize].rows = rows;
         self.count = number + 1;
         Ok(number)
     }
@@ -47,32 +50,18 @@ impl Catalogue {
         ensures value { result ≡ (asked self.now).tie table other }
         ensures fair { (1 ≤ tie_q result) × (tie_p result ≤ tie_q result) }
     {
-        if table >= 10 || other >= 10 {
-            return None;
-        }
-        self.ties[table as usize * 10 + other as usize]
+        let from = self.tables.get(table as usize)?;
+        from.ties.get(other as usize).copied().flatten()
     }
 
     // The tie of two tables, whichever way round it was given.
+    #[tactic(auto, unfolding(plans::specs::Questions::tie_of))]
     pub fn tie_of(&self, table: u8, other: u8) -> Option<Tie>
         ensures value { result ≡ tie_of (asked self.now) table other }
         ensures fair { (1 ≤ tie_q result) × (tie_p result ≤ tie_q result) }
     {
-        match self.given_tie(table, other) {
-            Some(tie) => Some(tie),
-            None => self.given_tie(other, table),
-        }
-    }
-
-    // The test that stands at a table's number.
-    fn given_test(&self, table: u8) -> Option<Test>
-        ensures value { result ≡ (asked self.now).test table }
-        ensures fair { (1 ≤ test_q result) × (test_p result ≤ test_q result) }
-    {
-        if table >= 10 {
-            return None;
-        }
-        self.tests[table as usize]
+        self.given_tie(table, other)
+            .or_else(|| self.given_tie(other, table))
     }
 
     // The test on a table.
@@ -80,7 +69,7 @@ impl Catalogue {
         ensures value { result ≡ (asked self.now).test table }
         ensures fair { (1 ≤ test_q result) × (test_p result ≤ test_q result) }
     {
-        self.given_test(table)
+        self.tables.get(table as usize).and_then(|table| table.test)
     }
 
     // Sets the tie between two tables.
@@ -106,7 +95,7 @@ impl Catalogue {
         if self.tie_of(table, other).is_some() {
             return Err(ChangeRefusal::AlreadyTied);
         }
-        self.ties[table as usize * 10 + other as usize] = Some(Tie { p, q, cost });
+        self.tables[table as usize].ties[other as usize] = Some(Tie { p, q, cost });
         Ok(())
     }
 
@@ -127,13 +116,11 @@ impl Catalogue {
         if q == 0 || p > q {
             return Err(ChangeRefusal::BadSelectivity);
         }
-        let Ok(kind) = Kind::try_from(kind) else {
-            return Err(ChangeRefusal::NoSuchKind);
-        };
+        let kind = Kind::try_from(kind)?;
         if self.test_of(table).is_some() {
             return Err(ChangeRefusal::AlreadyTested);
         }
-        self.tests[table as usize] = Some(Test { p, q, cost, kind });
+        self.tables[table as usize].test = Some(Test { p, q, cost, kind });
         Ok(())
     }
 
@@ -144,13 +131,9 @@ impl Catalogue {
         if table >= self.count {
             return Err(ChangeRefusal::NoSuchTable);
         }
-        let Some(test) = self.test_of(table) else {
-            return Err(ChangeRefusal::NoTest);
-        };
-        let Some(cost) = corrected_cost(test.cost, by) else {
-            return Err(ChangeRefusal::CostOutOfRange);
-        };
-        self.tests[table as usize] = Some(Test { cost, ..test });
+        let test = self.test_of(table).ok_or(ChangeRefusal::NoTest)?;
+        let cost = corrected_cost(test.cost, by).ok_or(ChangeRefusal::CostOutOfRange)?;
+        self.tables[table as usize].test = Some(Test { cost, ..test });
         Ok(())
     }
 }
@@ -159,10 +142,5 @@ impl Catalogue {
 fn corrected_cost(cost: u16, by: i32) -> Option<u16>
     ensures { result ≡ as_cost (pos cost +ℤ by) }
 {
-    let sum = cost as i64 + by as i64;
-    if sum < 0 || sum > u16::MAX as i64 {
-        None
-    } else {
-        Some(sum as u16)
-    }
+    u16::try_from(cost as i64 + by as i64).ok()
 }

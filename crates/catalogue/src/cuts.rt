@@ -1,24 +1,29 @@
 // Links and costs of any cut of the tables, by look-ups.
-ghost use Rattle.std.specs.Prelude.{◌≡◌, ℕ, ◌+◌, ◌*◌, ◌^◌, ◌<◌, ◌≤◌, length, if◌then◌else◌, slice_index};
+ghost use Rattle.std.specs.Prelude.{◌≡◌, ℕ, ◌*◌, ◌<◌, ◌≤◌, length};
+ghost use Rattle.std.specs.List.{HoldsAt};
 ghost use Rattle.catalogue.specs.Asked.{asked};
-ghost use Rattle.catalogue.specs.Within.{inside as inside_of, near as near_of};
+ghost use Rattle.catalogue.specs.Within.{IsCut, inside as inside_of, near as near_of};
 ghost use Rattle.plans.specs.Questions.{across as across_of, all_tables, linked as linked_by};
 
 use crate::Catalogue;
 use sets::SmallSet;
 
-// For each set of tables the tables that a tie links to it, and the costs of the ties inside it, added up.
+// Of a set of tables the number of those that a tie links to it, and the costs of the ties inside it, added up.
+#[derive(Clone, Copy)]
+struct Cut {
+    near: u16,
+    inside: u32,
+}
+
+// What is listed of each set of tables, each at its number.
 #[derive(Drop)]
 pub struct Cuts<'a> {
     catalogue: &'a Catalogue,
     all: SmallSet,
-    near: [u16; 1024],
-    inside: [u32; 1024],
+    cuts: [Cut; 1024],
     ghost given: { all.bits ≡ all_tables (asked catalogue.now) },
-    ghost all_near: { length near ≡ 1024 },
-    ghost all_inside: { length inside ≡ 1024 },
-    ghost nears: { ((x : ℕ) → x ≤ all.bits → slice_index near x ≡ near_of (asked catalogue.now) x) },
-    ghost insides: { ((x : ℕ) → x ≤ all.bits → slice_index inside x ≡ inside_of (asked catalogue.now) x) },
+    ghost all_cuts: { length cuts ≡ 1024 },
+    ghost listed: { ((x : ℕ) → x ≤ all.bits → HoldsAt (IsCut (asked catalogue.now) x) cuts x) },
 }
 
 impl<'a> Cuts<'a> {
@@ -30,8 +35,7 @@ impl<'a> Cuts<'a> {
         Cuts {
             catalogue,
             all,
-            near: near_sets(catalogue, all),
-            inside: inside_sets(catalogue, all),
+            cuts: cuts_up_to(catalogue, all),
         }
     }
 
@@ -40,55 +44,35 @@ impl<'a> Cuts<'a> {
         ensures { result ≡ linked_by (asked self.now.catalogue.now) left.bits right.bits }
     {
         let given = left.intersection(self.all);
-        self.near[given.bits() as usize] & right.bits() != 0
+        self.cuts[given.bits() as usize].near & right.bits() != 0
     }
 
     // The costs of all ties between the left tables and the right, added up.
     pub fn across(&self, left: SmallSet, right: SmallSet) -> u32
         ensures { result ≡ across_of (asked self.now.catalogue.now) left.bits right.bits }
     {
-        if left.bits() & right.bits() != 0 {
+        if !left.intersection(right).is_empty() {
             return self.catalogue.across(left, right);
         }
         let one = left.intersection(self.all).bits();
         let other = right.intersection(self.all).bits();
-        self.inside[(one | other) as usize]
-            - self.inside[one as usize]
-            - self.inside[other as usize]
+        self.cuts[(one | other) as usize].inside
+            - self.cuts[one as usize].inside
+            - self.cuts[other as usize].inside
     }
-}
-
-// The set, with a table above its members if a tie links that to `tables`.
-fn with_neighbour(catalogue: &Catalogue, near: SmallSet, tables: SmallSet, other: u8) -> SmallSet
-    requires below { near.bits < 2 ^ other }
-    requires given { other < 10 }
-    ensures { result.bits ≡ near.bits + (if linked_by (asked catalogue.now) tables.bits (2 ^ other) then 2 ^ other else 0) }
-{
-    let Some(one) = SmallSet::single(other) else {
-        return near;
-    };
-    if catalogue.linked(tables, one) {
-        if let Some(more) = near.with_member(other) {
-            return more;
-        }
-    }
-    near
 }
 
 // The tables that a tie links to `tables`.
 fn neighbours(catalogue: &Catalogue, tables: SmallSet) -> SmallSet
     ensures { result.bits ≡ near_of (asked catalogue.now) tables.bits }
 {
-    let mut near = SmallSet::empty();
-    for other in 0..catalogue.count() {
-        near = with_neighbour(catalogue, near, tables, other);
-    }
-    near
+    catalogue.tables_where(|other| catalogue.tied_to(other, tables))
 }
 
-// The same, from what is near each smaller set.
-fn near_set(catalogue: &Catalogue, near: &[u16; 1024], tables: SmallSet) -> u16
-    requires { (x : ℕ) → x < tables.bits → slice_index near.now x ≡ near_of (asked catalogue.now) x }
+// The same as a number, from the cuts of the smaller sets.
+fn near_set(catalogue: &Catalogue, cuts: &[Cut; 1024], tables: SmallSet) -> u16
+    requires given { tables.bits ≤ all_tables (asked catalogue.now) }
+    requires below { (x : ℕ) → x < tables.bits → HoldsAt (IsCut (asked catalogue.now) x) cuts.now x }
     ensures { result ≡ near_of (asked catalogue.now) tables.bits }
 {
     let Some(table) = tables.lowest() else {
@@ -98,29 +82,13 @@ fn near_set(catalogue: &Catalogue, near: &[u16; 1024], tables: SmallSet) -> u16
     if rest.is_empty() {
         return neighbours(catalogue, tables).bits();
     }
-    near[rest.bits() as usize] | near[tables.without(rest).bits() as usize]
+    cuts[rest.bits() as usize].near | cuts[tables.without(rest).bits() as usize].near
 }
 
-// What is near each of the sets up to `all`.
-fn near_sets(catalogue: &Catalogue, all: SmallSet) -> [u16; 1024]
-    ensures all { length result ≡ 1024 }
-    ensures value { (x : ℕ) → x ≤ all.bits → slice_index result x ≡ near_of (asked catalogue.now) x }
-{
-    let mut near = [0; 1024];
-    for bits in 0..all.bits() + 1 {
-        let Some(tables) = SmallSet::from_bits(bits) else {
-            return near;
-        };
-        near[bits as usize] = near_set(catalogue, &near, tables);
-    }
-    near
-}
-
-// The costs of the ties inside a set, from those inside each smaller set.
-fn inside_set(catalogue: &Catalogue, inside: &[u32; 1024], tables: SmallSet) -> u32
+// The costs of the ties inside a set, from the cuts of the smaller sets.
+fn inside_set(catalogue: &Catalogue, cuts: &[Cut; 1024], tables: SmallSet) -> u32
     requires given { tables.bits ≤ all_tables (asked catalogue.now) }
-    requires before { (x : ℕ) → x < tables.bits → slice_index inside.now x ≡ inside_of (asked catalogue.now) x }
-    requires few { (x : ℕ) → x < tables.bits → slice_index inside.now x ≤ 655350 * x }
+    requires below { (x : ℕ) → x < tables.bits → HoldsAt (IsCut (asked catalogue.now) x) cuts.now x }
     ensures value { result ≡ inside_of (asked catalogue.now) tables.bits }
     ensures few { result ≤ 655350 * tables.bits }
 {
@@ -128,21 +96,22 @@ fn inside_set(catalogue: &Catalogue, inside: &[u32; 1024], tables: SmallSet) -> 
         return 0;
     };
     let rest = tables.without_member(table);
-    inside[rest.bits() as usize] + catalogue.costs_to(table, rest)
+    cuts[rest.bits() as usize].inside + catalogue.costs_to(table, rest)
 }
 
-// The costs inside each of the sets up to `all`.
-fn inside_sets(catalogue: &Catalogue, all: SmallSet) -> [u32; 1024]
+// The cut of each of the sets up to `all`.
+fn cuts_up_to(catalogue: &Catalogue, all: SmallSet) -> [Cut; 1024]
     requires { all.bits ≡ all_tables (asked catalogue.now) }
     ensures all { length result ≡ 1024 }
-    ensures value { (x : ℕ) → x ≤ all.bits → slice_index result x ≡ inside_of (asked catalogue.now) x }
+    ensures listed { (x : ℕ) → x ≤ all.bits → HoldsAt (IsCut (asked catalogue.now) x) result x }
 {
-    let mut inside = [0; 1024];
+    let mut cuts = [Cut { near: 0, inside: 0 }; 1024];
     for bits in 0..all.bits() + 1 {
-        let Some(tables) = SmallSet::from_bits(bits) else {
-            return inside;
-        };
-        inside[bits as usize] = inside_set(catalogue, &inside, tables);
+        if let Some(tables) = SmallSet::from_bits(bits) {
+            let near = near_set(catalogue, &cuts, tables);
+            let inside = inside_set(catalogue, &cuts, tables);
+            cuts[bits as usize] = Cut { near, inside };
+        }
     }
-    inside
+    cuts
 }

@@ -1,19 +1,20 @@
 // Why a change of a question is refused.
 ghost use Rattle.std.specs.Prelude.{◌≡◌};
 ghost use Rattle.catalogue.specs.Refusals.{change_number};
+ghost use Rattle.catalogue.specs.declared.refusals.ChangeRefusal.TheVariants.{NoSuchKind};
 
 #[derive(Clone, Copy, PartialEq, Eq, Debug)]
 pub enum ChangeRefusal {
-    TenTables,
-    TooManyRows,
-    NoSuchTable,
-    SameTable,
-    BadSelectivity,
-    AlreadyTied,
-    NoSuchKind,
-    AlreadyTested,
-    NoTest,
-    CostOutOfRange,
+    TenTables = 1,
+    TooManyRows = 2,
+    NoSuchTable = 3,
+    SameTable = 4,
+    BadSelectivity = 5,
+    AlreadyTied = 6,
+    NoSuchKind = 7,
+    AlreadyTested = 8,
+    NoTest = 9,
+    CostOutOfRange = 10,
 }
 
 impl ChangeRefusal {
@@ -21,17 +22,14 @@ impl ChangeRefusal {
     pub fn number(self) -> u8
         ensures { result ≡ change_number self }
     {
-        match self {
-            ChangeRefusal::TenTables => 1,
-            ChangeRefusal::TooManyRows => 2,
-            ChangeRefusal::NoSuchTable => 3,
-            ChangeRefusal::SameTable => 4,
-            ChangeRefusal::BadSelectivity => 5,
-            ChangeRefusal::AlreadyTied => 6,
-            ChangeRefusal::NoSuchKind => 7,
-            ChangeRefusal::AlreadyTested => 8,
-            ChangeRefusal::NoTest => 9,
-            ChangeRefusal::CostOutOfRange => 10,
-        }
+        self as u8
+    }
+}
+
+impl From<pricing::NoSuchKind> for ChangeRefusal {
+    ghost from_gives = { λ _ refusal. refusal ≡ NoSuchKind };
+
+    fn from(_: pricing::NoSuchKind) -> ChangeRefusal {
+        ChangeRefusal::NoSuchKind
     }
 }

@@ -7,7 +7,8 @@ ghost use Rattle.plans.specs.Questions.{across as across_of, base as base_of, ch
 use crate::{Catalogue, MOST_ROWS};
 use sets::SmallSet;
 
-// n × p / q, rounded up.
+// n × p / q, rounded up; `div_ceil` would divide twice.
+#[tactic(auto, using(crate::proofs::Scaling::up_le))]
 fn scaled(n: u64, p: u16, q: u16) -> u64
     requires whole { 1 ≤ q }
     requires part { p ≤ q }
@@ -19,12 +20,13 @@ fn scaled(n: u64, p: u16, q: u16) -> u64
 
 impl Catalogue {
     // The rows of a table, or what its test leaves of them if the test is one of `tests`.
+    #[tactic(auto, unfolding(plans::specs::Questions::base))]
     fn base(&self, tests: SmallSet, table: u8) -> u32
         requires { table < 10 }
         ensures value { result ≡ base_of (asked self.now) tests.bits table }
         ensures bound { result ≤ 16777215 }
     {
-        let rows = self.rows[table as usize];
+        let rows = self.tables[table as usize].rows;
         match self.test_of(table) {
             Some(test) if tests.contains(table) => scaled(rows as u64, test.p, test.q) as u32,
             _ => rows,
@@ -36,10 +38,8 @@ impl Catalogue {
         ensures value { result ≡ tied_rows_of (tie_of (asked self.now) table other) n }
         ensures bound { result ≤ n }
     {
-        match self.tie_of(table, other) {
-            Some(tie) => scaled(n, tie.p, tie.q),
-            None => n,
-        }
+        self.tie_of(table, other)
+            .map_or(n, |tie| scaled(n, tie.p, tie.q))
     }
 
     // n, narrowed by the ties of the table to those of the set above it.
@@ -48,13 +48,9 @@ impl Catalogue {
         ensures value { result ≡ narrowed_by (asked self.now) table (from (table + 1) self.now.count tables.bits) n }
         ensures bound { result ≤ n }
     {
-        let mut left = n;
-        for other in table + 1..self.count {
-            if tables.contains(other) {
-                left = self.tied_rows(table, other, left);
-            }
-        }
-        left
+        (table + 1..self.count)
+            .filter(|other| tables.contains(*other))
+            .fold(n, |left, other| self.tied_rows(table, other, left))
     }
 
     // The size of a table and of those of the set above it, from the size of those.
@@ -63,12 +59,7 @@ impl Catalogue {
         ensures value { result ≡ min 16777215 (narrowed_by (asked self.now) table (from (table + 1) self.now.count tables.bits) (base_of (asked self.now) tests.bits table * rest)) }
     {
         let pairs = self.base(tests, table) as u64 * rest as u64;
-        let left = self.narrowed(table, tables, pairs);
-        if left > MOST_ROWS as u64 {
-            MOST_ROWS
-        } else {
-            left as u32
-        }
+        self.narrowed(table, tables, pairs).min(MOST_ROWS as u64) as u32
     }
 
     // The size of the tables under the tests.

@@ -18,9 +18,8 @@ impl Catalogue {
         ensures value { table < 10 → result ≡ (asked self.now).rows table }
         ensures beyond { 10 ≤ table → result ≡ 0 }
     {
-        if table >= 10 {
-            return 0;
-        }
-        self.rows[table as usize]
+        self.tables
+            .get(table as usize)
+            .map_or(0, |table| table.rows)
     }
 }

@@ -1,9 +1,9 @@
-use Rattle.std.proofs.Common.{ℕ, ◌+◌, get_or, sym, ap, ◌∙◌, arith}
+use Rattle.std.proofs.Common.{sym, ap, ◌∙◌, arith}
 use Rattle.catalogue.specs.Asked.{asked}
 use Rattle.catalogue.specs.Within.{inside}
 use Rattle.catalogue.proofs.Inside.{inside_none}
 use Rattle.catalogue.proofs.OneWay.{costs_both_ways}
-use Rattle.catalogue.proofs.Cutting.{inside_listed, rest_below}
+use Rattle.catalogue.proofs.Cutting.{no_cut, inside_from, rest_below}
 use Rattle.catalogue.proofs.cuts.inside_set.Goals as goal
 
 pub returns-in_default : goal.returns-in_default
@@ -14,24 +14,23 @@ returns-in_default c =
 pub overflow_add-result : goal.overflow_add-result
 overflow_add-result c =
     let Q = asked c.args.catalogue.now in
-    let list = c.args.inside.now in
-    let R = c.args.tables.bits in
-    let r = c.without_member-rest.result.bits in
     let t = c.in-Some.ensures in
-    let less = rest_below Q list R c.in-Some.table r t.0 (c.without_member-rest.ensures.inside t.0) in
-    omega (arith, c.requires.few r less, ap (λ (x : ℕ). get_or list x 0) c.bits.ensures, c.costs_to.ensures.bound, c.args.tables.few)
+    let less = rest_below Q c.args.tables.bits c.in-Some.table c.without_member-rest.result.bits t.0 (c.without_member-rest.ensures.inside t.0) c.requires.given in
+    let below = c.requires.below c.bits.result (omega (arith, less, c.bits.ensures)) no_cut in
+    record { fits = omega (arith, less, c.bits.ensures, below.2, c.costs_to.ensures.bound, c.args.tables.few) }
 
 pub returns : goal.returns
 returns c =
-    let Q = asked c.args.catalogue.now in
-    let list = c.args.inside.now in
+    let q = c.args.catalogue.now in
+    let Q = asked q in
     let R = c.args.tables.bits in
-    let r = c.without_member-rest.result.bits in
     let t = c.in-Some.ensures in
+    let i = c.in-Some.table in
+    let r = c.without_member-rest.result.bits in
     let rest = c.without_member-rest.ensures.inside t.0 in
-    let less = rest_below Q list R c.in-Some.table r t.0 rest in
-    let read = ap (λ (x : ℕ). get_or list x 0) c.bits.ensures in
+    let less = rest_below Q R i r t.0 rest c.requires.given in
+    let below = c.requires.below c.bits.result (omega (arith, less, c.bits.ensures)) no_cut in
     record {
-      value = ap (λ (x : ℕ). x + c.costs_to.result) read ∙ inside_listed Q list R c.in-Some.table r t.0 rest (costs_both_ways c.args.catalogue.now) c.costs_to.result c.requires.before c.requires.given c.costs_to.ensures.value;
-      few = omega (arith, c.requires.few r less, read, c.costs_to.ensures.bound);
+      value = inside_from Q R i r t.0 rest c.requires.given (costs_both_ways q) _ c.costs_to.result (below.1 ∙ ap (inside Q) c.bits.ensures) c.costs_to.ensures.value;
+      few = omega (arith, less, c.bits.ensures, below.2, c.costs_to.ensures.bound);
     }

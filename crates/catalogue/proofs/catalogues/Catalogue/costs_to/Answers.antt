@@ -1,10 +1,17 @@
-use Rattle.std.proofs.Common.{sym, arith}
-use Rattle.catalogue.proofs.Below.{sum_none, sum_more}
+use Rattle.std.proofs.Common.{rules, arith}
+use Rattle.sets.specs.Sets.{has}
+use Rattle.plans.specs.Questions.{cost_of}
+use Rattle.catalogue.specs.Asked.{asked}
+use Rattle.catalogue.proofs.Below.{sum_over, sum_over_fits}
 use Rattle.catalogue.proofs.catalogues.Catalogue.costs_to.Goals as goal
 
-pub loop-other-init : goal.loop-other-init
-loop-other-init c = (sym (sum_none _), omega arith)
+pub sum-requires-clause-fits : goal.sum-requires-clause-fits
+sum-requires-clause-fits c =
+    sum_over_fits c.map.result c.args.self.now.count 65535 (has c.args.others.bits) (cost_of (asked c.args.self.now) c.args.table) c.map.ensures.source c.map.ensures.closure
+    c.filter.ensures.source c.filter.ensures.closure (λ x b q k. search rules) (λ x r q k. search rules) _ (omega arith)
 
-pub loop-other-preserved : goal.loop-other-preserved
-loop-other-preserved c =
-    (sum_more _ c.loop-other.other c.loop-other.sum _ c.loop-other.invariant.0 c.cost_into-sum.ensures.value, omega (arith, c.loop-other.invariant.1, c.cost_into-sum.ensures.bound))
+pub returns : goal.returns
+returns c =
+    let e = sum_over c.map.result c.args.self.now.count 65535 (has c.args.others.bits) (cost_of (asked c.args.self.now) c.args.table) c.map.ensures.source c.map.ensures.closure
+    c.filter.ensures.source c.filter.ensures.closure (λ x b q k. search rules) (λ x r q k. search rules) _ c.sum.ensures.ran in
+    record { value = e.0; bound = omega (arith, e.1) }

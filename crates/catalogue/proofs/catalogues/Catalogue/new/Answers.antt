@@ -1,29 +1,14 @@
-use Rattle.std.proofs.Common.{ℕ, ◌+◌, ◌*◌, ◌≤◌, ltb, None, Option, sym, refl, subst, arith}
-use Rattle.plans.specs.declared.predicates.Tie.{Tie}
-use Rattle.plans.specs.declared.predicates.Test.{Test}
-use Rattle.catalogue.specs.Fair.{tie_p, tie_q, test_p, test_q}
-use Rattle.catalogue.proofs.Places.{each_same, cond_same, same_question}
+use Rattle.std.proofs.Common.{get_or, None, refl, arith}
+use Rattle.catalogue.specs.Tables.{no_table}
+use Rattle.catalogue.specs.declared.catalogues.Table.{Table}
+use Rattle.catalogue.proofs.Places.{each_same, same_question}
 use Rattle.catalogue.proofs.catalogues.Catalogue.new.Goals as goal
 
-pub invariant_of-result : goal.invariant_of-result
-invariant_of-result c =
-    record {
-      few = omega arith;
-      ten_rows = refl;
-      all_ties = refl;
-      ten_tests = refl;
-      room = λ i. subst (λ (n : ℕ). n ≤ 16777215) (sym (each_same 0 10 i)) (omega arith);
-      tie_whole = λ k. subst (λ (t : Option Tie). 1 ≤ tie_q t) (sym (each_same None 100 k)) (omega arith);
-      tie_part = λ k. subst (λ (t : Option Tie). tie_p t ≤ tie_q t) (sym (each_same None 100 k)) (omega arith);
-      test_whole = λ i. subst (λ (t : Option Test). 1 ≤ test_q t) (sym (each_same None 10 i)) (omega arith);
-      test_part = λ i. subst (λ (t : Option Test). test_p t ≤ test_q t) (sym (each_same None 10 i)) (omega arith);
-      no_self = λ i l. each_same None 100 (i * 10 + i);
-      one_way = λ i j l k h. each_same None 100 (j * 10 + i);
-      tie_given = λ i j l h. each_same None 100 (i * 10 + j);
-      other_given = λ i j l h. each_same None 100 (i * 10 + j);
-      test_given = λ i h. each_same None 10 i;
-    }
+pub invariant_of-result-clause-few : goal.invariant_of-result-clause-few
+invariant_of-result-clause-few c = omega arith
 
 pub returns : goal.returns
 returns c =
-    same_question _ _ refl (λ i. each_same 0 10 i) (λ i j. cond_same (ltb j 10) _ None (each_same None 100 (i * 10 + j))) (λ i. each_same None 10 i)
+    same_question _ _ refl (each_same (λ (t : Table). t.rows) _ no_table refl 10)
+    (λ i j. each_same (λ (t : Table). get_or t.ties j None) _ no_table (each_same (λ (o : _). o) None None refl 10 j) 10 i)
+    (each_same (λ (t : Table). t.test) _ no_table refl 10)
