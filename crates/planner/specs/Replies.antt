@@ -1,5 +1,6 @@
 -- The calls of a list, and what is replied to them.
-use Rattle.std.specs.Prelude.{ℕ, take, Ok, Err, Result}
+use Rattle.std.specs.Prelude.{ℕ, Ok, Err, Result}
+use Rattle.buffers.specs.Written.{written}
 use Rattle.planner.specs.declared.calls.Call as code
 use Rattle.planner.specs.declared.calls.Call.TheVariants.{Table, Tie, Test, Correct, Solve, Tell, Check}
 use Rattle.planner.specs.declared.calls.Reply.{Reply}
@@ -22,7 +23,7 @@ abbrev pub answer_of : {P : Type 0} → Reply P → Answer P
 answer_of (Placed n) = placed n
 answer_of Done = done
 answer_of (Solved tries price) = solved tries price
-answer_of (Told bytes len price) = told (take len bytes) price
+answer_of (Told plan price) = told (written plan) price
 answer_of (Checked price) = checked price
 answer_of (Refused e) = refused (refusal_number e)
 

@@ -1,5 +1,6 @@
 -- A question as it stands.
-use Rattle.std.specs.Prelude.{ℕ, List, take, Some, None, Option}
+use Rattle.std.specs.Prelude.{ℕ, List, Some, None, Option}
+use Rattle.buffers.specs.Written.{written}
 use Rattle.catalogue.specs.Asked.{asked}
 use Rattle.catalogue.specs.Changes.{empty}
 use Rattle.plans.specs.Questions.{Question}
@@ -24,7 +25,7 @@ fresh = record { question = empty; standing = None }
 -- The state that the code holds.
 abbrev pub stood_of : {P : Type 0} → Option (Solution P) → Option (Stood P)
 stood_of None = None
-stood_of (Some x) = Some (record { plan = take x.len x.bytes; price = x.price; tries = x.tries })
+stood_of (Some x) = Some (record { plan = written x.plan; price = x.price; tries = x.tries })
 
 abbrev pub state_of : {P : Type 0} → Held P → State P
 state_of h = record { question = asked h.catalogue; standing = stood_of h.standing }

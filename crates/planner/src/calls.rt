@@ -1,5 +1,6 @@
 // Calls as a list of them holds them, and what they reply.
 use crate::Refusal;
+use readoff::PlanBytes;
 
 // One of the seven calls. The lists that solve and check work in, and the buffer of tell, are lent when it is made.
 #[derive(Clone, Copy)]
@@ -30,7 +31,7 @@ pub enum Call<'a> {
     Check(&'a [u8]),
 }
 
-// What a call replied; of the bytes of a told plan the first `len` count.
+// What a call replied.
 #[derive(Clone, Copy)]
 pub enum Reply<P> {
     Placed(u8),
@@ -40,8 +41,7 @@ pub enum Reply<P> {
         price: P,
     },
     Told {
-        bytes: [u8; 58],
-        len: usize,
+        plan: PlanBytes,
         price: P,
     },
     Checked(P),

@@ -9,6 +9,7 @@ ghost use Rattle.planner.specs.States.{fresh, state_of};
 
 use crate::{Call, Question, Refusal, Reply};
 use pricing::PriceModel;
+use readoff::{MOST_PLAN_BYTES, PlanBytes};
 
 // Makes one call, with the lists for a solve or a check, and with room for any plan for a tell.
 fn make<M: PriceModel>(
@@ -52,9 +53,10 @@ fn make<M: PriceModel>(
             Reply::Solved { tries, price }
         }
         Call::Tell => {
-            let mut bytes = [0; 58];
-            let (len, price) = question.tell(&mut bytes)?;
-            Reply::Told { bytes, len, price }
+            let mut room = [0; MOST_PLAN_BYTES];
+            let (len, price) = question.tell(&mut room)?;
+            let plan = PlanBytes::of(room, len).unwrap();
+            Reply::Told { plan, price }
         }
         Call::Check(bytes) => Reply::Checked(question.check(bytes, prices)?),
     })

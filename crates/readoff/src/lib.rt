@@ -13,9 +13,16 @@ ghost use Rattle.readoff.specs.Written.{ReadOff};
 mod choices;
 mod reading;
 
+use buffers::Bytes;
 pub use choices::{Choice, choice_at};
 use reading::emit;
 use sets::{Row, SmallSet};
+
+// No plan of ten tables has more bytes.
+pub const MOST_PLAN_BYTES: usize = 58;
+
+// The bytes of a plan.
+pub type PlanBytes = Bytes<MOST_PLAN_BYTES>;
 
 // Writes the plan of the row at the front of the buffer, and answers the number of its bytes; None if the choices lead to no plan,
 // or to one that is longer than the buffer. `tested` are the tables that have a test.

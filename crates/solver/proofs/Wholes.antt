@@ -1,9 +1,10 @@
 -- The whole question's plan, from rows that are filled.
-use Rattle.std.proofs.Common.{◌≡◌, ℕ, ◌^◌, ◌<◌, ◌≤◌, Bool, true, false, cond, List, length, take, drop, Some, None, Ok, Err, Option, Result, IsErrAnd, sym, refl, ap, ◌∙◌, subst, ap₂, arith, take_at, pow_pos}
+use Rattle.std.proofs.Common.{◌≡◌, ℕ, ◌^◌, ◌<◌, ◌≤◌, Bool, true, false, cond, List, length, take, drop, Some, None, Ok, Err, Option, Result, IsErrAnd, sym, refl, ap, ◌∙◌, subst, ap₂, arith, length-take-le, take_at, pow_pos}
 use lib.Bits.{and_self}
 use Rattle.std.specs.List.{slice_get}
 use Rattle.std.specs.Option.{ok_or}
 use Rattle.std.proofs.lemmas.Option.{get_or_from_slice_get}
+use Rattle.buffers.specs.Written.{written as bytes_of}
 use Rattle.pricing.specs.Models.{Model}
 use Rattle.sets.specs.Rows.{place_of}
 use Rattle.sets.proofs.Positions.{place_lt}
@@ -99,19 +100,21 @@ module _ {P : Type 0} (m : Model P) (Q : Question) (prices : List P) (choices : 
         let z : ◌≡◌ {A = ℕ} 0 1 = cc in
         absurd (omega arith)
 
-    pub whole_told : (v : P) (s : Solution P) → At (Some v) → false ≡ m.past v → answer ≡ Some s.len → s.bytes ≡ after → s.price ≡ v → s.tries ≡ all_tries m Q
+    pub whole_told : (v : P) (s : Solution P) (n : ℕ) → At (Some v) → false ≡ m.past v → answer ≡ Some n → bytes_of s.plan ≡ take n after → s.price ≡ v → s.tries ≡ all_tries m Q
         → Answers m Q (whole_plan m Q (opt m Q (all_tables Q) (all_tests Q))) (Ok s)
-    whole_told v s e near found-len bytes price_is tries =
+    whole_told v s n e near found-len is price_is tries =
         let f = found v e _ refl in
         let p = f.0 in
         let w = front p f.1 in
-        let same : ◌≡◌ {A = Option ℕ} (Some s.len) (Some (length (spelled p))) = sym found-len ∙ w.number in
-        let len : s.len ≡ length (spelled p) = cc in
+        let same : ◌≡◌ {A = Option ℕ} (Some n) (Some (length (spelled p))) = sym found-len ∙ w.number in
+        let len : n ≡ length (spelled p) = cc in
+        let bytes : bytes_of s.plan ≡ spelled p = is ∙ ap (take n) w.holds ∙ take_at (spelled p) (drop (length (spelled p)) before) n (sym len) in
+        let counted : s.plan.len ≤ length s.plan.room = omega (arith, s.plan.all, s.plan.within) in
         subst (λ (b : Option Plan). Answers m Q (whole_plan m Q b) (Ok s)) (sym f.1)
         (subst (λ (b : Bool). Answers m Q (cond b (Err PastCount) (Ok p)) (Ok s)) (near ∙ ap m.past f.2)
         (record {
-          len = len;
-          bytes = ap (take s.len) (bytes ∙ w.holds) ∙ take_at (spelled p) (drop (length (spelled p)) before) s.len (sym len);
+          len = sym (length-take-le s.plan.len s.plan.room counted) ∙ ap length bytes;
+          bytes = bytes;
           price_is = price_is ∙ f.2;
           tries = tries;
         }))

@@ -1,5 +1,6 @@
 -- What solve answers, and what it leaves in the lists.
-use Rattle.std.specs.Prelude.{◌≡◌, ℕ, ◌<◌, Bool, true, false, cond, ◌&&◌, List, length, take, Some, None, Ok, Err, MatchBool, Option, Result, ◌==◌, nat_le}
+use Rattle.std.specs.Prelude.{◌≡◌, ℕ, ◌<◌, Bool, true, false, cond, ◌&&◌, List, length, Some, None, Ok, Err, MatchBool, Option, Result, ◌==◌, nat_le}
+use Rattle.buffers.specs.Written.{written}
 use Rattle.pricing.specs.Models.{Model}
 use Rattle.sets.specs.Rows.{row_count}
 use Rattle.plans.specs.Questions.{Question, all_tables, all_tests}
@@ -47,8 +48,8 @@ module _ {P : Type 0} (m : Model P) (Q : Question) where
 
   -- The bytes spell the plan, at its price, with the tries of the question.
   pub record Tells (p : Plan) (s : Solution P) : Type 0 where
-    pub len : s.len ≡ length (spelled p)
-    pub bytes : take s.len s.bytes ≡ spelled p
+    pub len : s.plan.len ≡ length (spelled p)
+    pub bytes : written s.plan ≡ spelled p
     pub price_is : s.price ≡ price m Q p
     pub tries : s.tries ≡ all_tries m Q
 
@@ -69,7 +70,7 @@ module _ {P : Type 0} (m : Model P) (Q : Question) where
 
   -- A told plan is valid, its price is the one told and below the count, and no valid plan is cheaper. No plan means that none is valid, and past the count that every valid one is.
   abbrev pub Cheapest : Result (Solution P) SolveRefusal → Type 0
-  Cheapest (Ok s) = (p : Plan) × Whole p × (take s.len s.bytes ≡ spelled p) × (s.price ≡ price m Q p) × (m.past s.price ≡ false)
+  Cheapest (Ok s) = (p : Plan) × Whole p × (written s.plan ≡ spelled p) × (s.price ≡ price m Q p) × (m.past s.price ≡ false)
       × ((q : Plan) → Whole q → m.at_most s.price (price m Q q) ≡ true)
   Cheapest (Err NoTables) = Q.count ≡ 0
   Cheapest (Err ListTooShort) = Unit {0}

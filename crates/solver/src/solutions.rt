@@ -2,6 +2,8 @@
 ghost use Rattle.std.specs.Prelude.{◌≡◌};
 ghost use Rattle.solver.specs.Solves.{solve_number};
 
+use readoff::PlanBytes;
+
 // Why there is no plan to tell, each with its number.
 #[derive(Clone, Copy, PartialEq, Eq, Debug)]
 pub enum SolveRefusal {
@@ -20,11 +22,10 @@ impl SolveRefusal {
     }
 }
 
-// A plan in bytes, of which the first `len` count, with its price and the tries it took to find it.
+// A plan in bytes, with its price and the tries it took to find it.
 #[derive(Clone, Copy)]
 pub struct Solution<P> {
-    pub bytes: [u8; 58],
-    pub len: usize,
+    pub plan: PlanBytes,
     pub price: P,
     pub tries: u64,
 }

@@ -11,7 +11,7 @@ use crate::rows::solve_rows;
 use crate::{Solution, SolveRefusal};
 use catalogue::Catalogue;
 use pricing::PriceModel;
-use readoff::read_off;
+use readoff::{MOST_PLAN_BYTES, PlanBytes, read_off};
 use sets::{Row, position, row_count};
 
 // Reads the whole question's plan off rows that are filled.
@@ -35,11 +35,10 @@ fn whole<M: PriceModel>(
     if model.past(price) {
         return Err(SolveRefusal::PastCount);
     }
-    let mut bytes = [0; 58];
-    let len = read_off(choices, tested, row, &mut bytes).ok_or(SolveRefusal::NoPlan)?;
+    let mut room = [0; MOST_PLAN_BYTES];
+    let len = read_off(choices, tested, row, &mut room).ok_or(SolveRefusal::NoPlan)?;
     Ok(Solution {
-        bytes,
-        len,
+        plan: PlanBytes::of(room, len).unwrap(),
         price,
         tries,
     })

@@ -38,11 +38,12 @@ impl<M: PriceModel> Question<M> {
         let Some(standing) = self.held.standing else {
             return Err(TellRefusal::NothingStands);
         };
-        if buffer.len() < standing.len {
+        let plan = standing.plan.as_slice();
+        if buffer.len() < plan.len() {
             return Err(TellRefusal::BufferTooShort);
         }
-        buffer[..standing.len].copy_from_slice(&standing.bytes[..standing.len]);
-        Ok((standing.len, standing.price))
+        buffer[..plan.len()].copy_from_slice(plan);
+        Ok((plan.len(), standing.price))
     }
 
     // The price of the valid plan that the bytes spell. Entry k of the list takes the price of the last operation

@@ -1,4 +1,5 @@
-use Rattle.std.proofs.Common.{◌≡◌, Option, None, Some, refl, sym, ◌∙◌, subst}
+use Rattle.std.proofs.Common.{◌≡◌, ◌<◌, MatchOption, Option, None, Some, take, refl, sym, ◌∙◌, subst}
+use Rattle.buffers.specs.Written.{written}
 use Rattle.catalogue.specs.Asked.{asked}
 use Rattle.plans.specs.Questions.{all_tables, all_tests}
 use Rattle.solver.specs.Held.{price_at}
@@ -39,6 +40,9 @@ returns-in_err-len g c =
 pub returns : goal.returns
 returns g c =
     let Q = asked c.args.catalogue.now in
+    let n = c.in_ok-len.len in
+    let plan : written c.unwrap.result ≡ take n c.read_off.new.buffer =
+    subst (λ r. MatchOption r (58 < n) (λ bytes. written bytes ≡ take n c.read_off.new.buffer)) c.unwrap.ensures c.of.ensures in
     whole_told _ Q _ _ c.requires.readable c.args.catalogue.now.few _ _ c.read_off.result refl
     (full_written Q _ _ _ _ _ _ c.tests-tested.ensures c.tables.ensures c.read_off.ensures.written)
-    c.in_ok-price.price _ (priced g (goal.at.returns g c).After-price_at (Some c.in_ok-price.price) c.in_ok-price.ensures.ok_part) c.if-past.ensures c.in_ok-len.ensures.ok_part refl refl c.requires.tried
+    c.in_ok-price.price _ n (priced g (goal.at.returns g c).After-price_at (Some c.in_ok-price.price) c.in_ok-price.ensures.ok_part) c.if-past.ensures c.in_ok-len.ensures.ok_part plan refl c.requires.tried
