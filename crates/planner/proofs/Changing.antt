@@ -13,7 +13,3 @@ pub refused_step : {P : Type 0} (X : Type 0) (m : Model P) (s : State P) (o : Re
     → Follows {X = X} o Q (Err e) after → Changes m s (refused (change_number e)) s b o
 refused_step X m s (Ok changed) e Q after b f = absurd f
 refused_step X m s (Err cause) e Q after b f = (ap (λ (x : ChangeRefusal). refused (change_number x)) f.0, refl)
-
-pub refused_stays : (X : Type 0) (o : Result Question ChangeRefusal) (e : ChangeRefusal) (Q after : Question) → Follows {X = X} o Q (Err e) after → Follows {X = X} o Q (Err e) Q
-refused_stays X (Ok changed) e Q after f = absurd f
-refused_stays X (Err cause) e Q after f = (f.0, refl)

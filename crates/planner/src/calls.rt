@@ -36,14 +36,8 @@ pub enum Call<'a> {
 pub enum Reply<P> {
     Placed(u8),
     Done,
-    Solved {
-        tries: u64,
-        price: P,
-    },
-    Told {
-        plan: PlanBytes,
-        price: P,
-    },
+    Solved { tries: u64, price: P },
+    Told { plan: PlanBytes, price: P },
     Checked(P),
     Refused(Refusal),
 }
