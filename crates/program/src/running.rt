@@ -12,6 +12,7 @@ use crate::writing::{fault_output, plan_output};
 use crate::{Output, ProgramFault, Refused};
 use planner::Question;
 use pricing::PrintableModel;
+use readoff::MOST_PLAN_BYTES;
 
 // An input has at most so many bytes.
 pub const MOST_INPUT: usize = 8192;
@@ -38,7 +39,7 @@ fn answer<M: PrintableModel>(
         Ok(found) => found,
         Err(refusal) => return at_line(Err(refusal.into()), end),
     };
-    let mut bytes = [0; 58];
+    let mut bytes = [0; MOST_PLAN_BYTES];
     match question.tell(&mut bytes) {
         Ok((len, price)) => Ok(plan_output(question.model(), &bytes[..len], price, tries)),
         Err(_) => unreachable(),
