@@ -19,13 +19,12 @@ fn put_digits(buffer: &mut [u8], at: usize, bytes: &[u8]) -> usize
     requires { at + 2 * length bytes.now ≤ length buffer.old }
     ensures { Put buffer.old buffer.new at result (hex_digits bytes.now) }
 {
-    let mut end = at;
-    for byte in bytes {
-        buffer[end] = digit(*byte / 16);
-        buffer[end + 1] = digit(*byte % 16);
-        end += 2;
+    for (place, byte) in bytes.iter().enumerate() {
+        let pair = at + 2 * place;
+        buffer[pair] = digit(*byte / 16);
+        buffer[pair + 1] = digit(*byte % 16);
     }
-    end
+    at + 2 * bytes.len()
 }
 
 // Writes the bytes as a line from `at` on, and answers where it ends; None if there is no room for it.
