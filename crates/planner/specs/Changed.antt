@@ -5,5 +5,5 @@ use Rattle.catalogue.specs.declared.refusals.ChangeRefusal.{ChangeRefusal}
 use Rattle.planner.specs.declared.held.Held.{Held}
 
 -- Accepted, the changed catalogue stands and no plan does; refused, all is as it was.
-abbrev pub Leaves : {T P : Type 0} → Result T ChangeRefusal → Catalogue → (before after : Held P) → Type 0
-Leaves answer changed before after = MatchResult answer (λ _. (after.catalogue ≡ changed) × (after.standing ≡ None)) (λ _. after ≡ before)
+abbrev pub ChangeLeaves : {T P : Type 0} → Result T ChangeRefusal → Catalogue → (before after : Held P) → Type 0
+ChangeLeaves answer changed before after = MatchResult answer (λ _. (after.catalogue ≡ changed) × (after.standing ≡ None)) (λ _. after ≡ before)

@@ -1,5 +1,5 @@
 -- Numbers in bytes: how long they are, that no two are alike, and what the machine's own order of bytes gives.
-use Rattle.std.specs.Prelude.{◌≡◌, ℕ, zero, suc, ◌/◌, ◌%◌, ◌^◌, ◌<◌, [], ◌∷◌, length, refl}
+use Rattle.std.specs.Prelude.{◌≡◌, ℕ, zero, suc, ◌/◌, ◌%◌, ◌^◌, ◌<◌, List, [], ◌∷◌, ◌++◌, length, slice_index, refl}
 use Rattle.std.proofs.Common.{sym, ap, ◌∙◌, pow-suc, arith}
 use Rattle.std.proofs.Math.Nat.{div-div-eq-div-mul}
 use Rattle.pricing.specs.Shown.{low_bytes, in_bytes}
@@ -47,3 +47,12 @@ eight_bytes n h =
     let top : n / 72057594037927936 % 256 ≡ n / 72057594037927936 = omega arith in
     let low : n % 256 ≡ n / 1 % 256 = omega arith in
     cc
+
+-- Four bytes and eight bytes, one by one.
+pub twelve_bytes : (a b : List ℕ) (f m : ℕ) → a ≡ in_bytes 4 f → b ≡ in_bytes 8 m
+    → slice_index a 0 ∷ slice_index a 1 ∷ slice_index a 2 ∷ slice_index a 3 ∷ slice_index b 0 ∷ slice_index b 1 ∷ slice_index b 2 ∷ slice_index b 3 ∷ slice_index b 4 ∷ slice_index b 5 ∷ slice_index b 6 ∷ slice_index b 7 ∷ []
+    ≡ in_bytes 4 f ++ in_bytes 8 m
+unfolding in_bytes low_bytes
+twelve_bytes a b f m p q =
+    ap (λ xs. slice_index xs 0 ∷ slice_index xs 1 ∷ slice_index xs 2 ∷ slice_index xs 3 ∷ slice_index b 0 ∷ slice_index b 1 ∷ slice_index b 2 ∷ slice_index b 3 ∷ slice_index b 4 ∷ slice_index b 5 ∷ slice_index b 6 ∷ slice_index b 7 ∷ []) p
+    ∙ ap (λ ys. in_bytes 4 f ++ (slice_index ys 0 ∷ slice_index ys 1 ∷ slice_index ys 2 ∷ slice_index ys 3 ∷ slice_index ys 4 ∷ slice_index ys 5 ∷ slice_index ys 6 ∷ slice_index ys 7 ∷ [])) q

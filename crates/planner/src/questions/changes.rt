@@ -3,7 +3,7 @@ ghost use Rattle.std.specs.Prelude.{◌≡◌, None};
 ghost use Rattle.catalogue.specs.Asked.{asked};
 ghost use Rattle.catalogue.specs.Changes.{Follows, corrected, tabled, tested, tied};
 ghost use Rattle.planner.specs.Calls.{add_table, correct_test, done_of, placed_of, set_test, set_tie};
-ghost use Rattle.planner.specs.Changed.{Leaves};
+ghost use Rattle.planner.specs.Changed.{ChangeLeaves};
 ghost use Rattle.planner.specs.Made.{Made};
 ghost use Rattle.planner.specs.States.{fresh, state_of};
 ghost use Rattle.catalogue.specs.declared.catalogues.Catalogue.{Catalogue};
@@ -51,7 +51,7 @@ impl<M: PriceModel> Question<M> {
     ) -> Result<T, ChangeRefusal>
         requires { F.IsAlwaysCallable call }
         ensures model { self.new.model ≡ self.old.model }
-        ensures called { (after : Catalogue) × FnOnceReturnsAtMut F.FnOnce call self.old.held.catalogue result after × Leaves result after self.old.held self.new.held }
+        ensures called { (after : Catalogue) × FnOnceReturnsAtMut F.FnOnce call self.old.held.catalogue result after × ChangeLeaves result after self.old.held self.new.held }
     {
         let mut catalogue = self.held.catalogue;
         let answer = call(&mut catalogue)?;
