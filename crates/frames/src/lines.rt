@@ -51,10 +51,7 @@ fn digit(character: u8) -> Option<u8>
 fn byte(high: u8, low: u8) -> Option<u8>
     ensures { result ≡ byte_value high low }
 {
-    match (digit(high), digit(low)) {
-        (Some(high), Some(low)) => Some(high * 16 + low),
-        _ => None,
-    }
+    Some(digit(high)? * 16 + digit(low)?)
 }
 
 // The first bytes of the pairs, if the characters are pairs to the last.
