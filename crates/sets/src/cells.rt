@@ -34,7 +34,14 @@ impl<'a, T: Copy> Ragged<'a, T> {
     pub fn get(&self, row: Row) -> Option<T>
         ensures { result ≡ slice_get self.now.cells.now (place_of self.now.tested.bits row.tables.bits row.tests.bits) }
     {
-        self.cells.get(position(row, self.tested)).copied()
+        self.get_at(position(row, self.tested))
+    }
+
+    // What the cell at a place holds, where the place of the row is known.
+    pub fn get_at(&self, place: usize) -> Option<T>
+        ensures { result ≡ slice_get self.now.cells.now place }
+    {
+        self.cells.get(place).copied()
     }
 
     // Writes the cell of the row, if there is such a cell, and says whether there is.
@@ -48,7 +55,7 @@ impl<'a, T: Copy> Ragged<'a, T> {
         self.put_at(position(row, self.tested), value)
     }
 
-    // The same for the cell at a place, where the place of the row is known.
+    // Writes the cell at a place, where the place of the row is known.
     pub fn put_at(&mut self, place: usize, value: T) -> bool
         ensures held { result ≡ nat_lt place (length self.old.cells.now) }
         ensures cells { self.new.cells.now ≡ updated self.old.cells.now place value }

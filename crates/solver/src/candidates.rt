@@ -19,22 +19,15 @@ impl<'a, M: PriceModel> RowTurn<'a, M> {
         requires sized { size ≡ size_of_set (asked self.now.work.now.catalogue.now) self.now.row.tables.bits self.now.row.tests.bits }
         requires part { left.bits ⊆ self.now.row.tables.bits }
         requires proper { (0 < left.bits) × (left.bits < self.now.row.tables.bits) }
-        ensures { let w = self.now.work.now in result ≡ joining_entry (M.meaning w.model.now) (asked w.catalogue.now) (held self.now.prices.now self.now.choices.now w.places.now.tested.bits) self.now.row.tables.bits self.now.row.tests.bits left.bits }
+        ensures { let w = self.now.work.now in result ≡ joining_entry (M.meaning w.model.now) (asked w.catalogue.now) (held self.now.prices.now.cells.now self.now.choices.now.cells.now w.places.now.tested.bits) self.now.row.tables.bits self.now.row.tests.bits left.bits }
     {
         let work = self.work;
-        let Row { tables, tests } = self.row;
-        let right = tables.without(left);
+        let right = self.row.tables.without(left);
         if !work.cuts.linked(left, right) {
             return None;
         }
-        let a = self.side_at(Row {
-            tables: left,
-            tests: tests.intersection(left),
-        })?;
-        let b = self.side_at(Row {
-            tables: right,
-            tests: tests.intersection(right),
-        })?;
+        let a = self.side_at(self.row.on(left))?;
+        let b = self.side_at(self.row.on(right))?;
         let costs = work.cuts.across(left, right);
         Some(Entry {
             price: work
@@ -46,18 +39,14 @@ impl<'a, M: PriceModel> RowTurn<'a, M> {
 
     // The test of a table on top, if it is one of the row's and what is below has a plan.
     fn test_candidate(&self, table: u8) -> Option<Entry<M::Price>>
-        ensures { let w = self.now.work.now in result ≡ testing_entry (M.meaning w.model.now) (asked w.catalogue.now) (held self.now.prices.now self.now.choices.now w.places.now.tested.bits) self.now.row.tables.bits self.now.row.tests.bits table }
+        ensures { let w = self.now.work.now in result ≡ testing_entry (M.meaning w.model.now) (asked w.catalogue.now) (held self.now.prices.now.cells.now self.now.choices.now.cells.now w.places.now.tested.bits) self.now.row.tables.bits self.now.row.tests.bits table }
     {
         let work = self.work;
-        let Row { tables, tests } = self.row;
-        if !tests.contains(table) {
+        if !self.row.tests.contains(table) {
             return None;
         }
         let test = work.catalogue.test_of(table)?;
-        let below = self.side_at(Row {
-            tables,
-            tests: tests.without_member(table),
-        })?;
+        let below = self.side_at(self.row.without_test(table))?;
         let rows = work.catalogue.charged_rows(table, below.size);
         Some(Entry {
             price: work.model.tested(below.price, rows, test.cost, test.kind),
@@ -84,8 +73,8 @@ impl<'a, M: PriceModel> RowTurn<'a, M> {
     // The entry of the row, which has the size, from those of the rows before it.
     pub(crate) fn entry(&self, size: u32) -> Tried<M::Price>
         requires { size ≡ size_of_set (asked self.now.work.now.catalogue.now) self.now.row.tables.bits self.now.row.tests.bits }
-        ensures best { let w = self.now.work.now in result.best ≡ row_entry (M.meaning w.model.now) (asked w.catalogue.now) (held self.now.prices.now self.now.choices.now w.places.now.tested.bits) self.now.row.tables.bits self.now.row.tests.bits }
-        ensures tries { let w = self.now.work.now in result.tries ≡ tries_by (M.meaning w.model.now) (asked w.catalogue.now) (held self.now.prices.now self.now.choices.now w.places.now.tested.bits) self.now.row.tables.bits self.now.row.tests.bits }
+        ensures best { let w = self.now.work.now in result.best ≡ row_entry (M.meaning w.model.now) (asked w.catalogue.now) (held self.now.prices.now.cells.now self.now.choices.now.cells.now w.places.now.tested.bits) self.now.row.tables.bits self.now.row.tests.bits }
+        ensures tries { let w = self.now.work.now in result.tries ≡ tries_by (M.meaning w.model.now) (asked w.catalogue.now) (held self.now.prices.now.cells.now self.now.choices.now.cells.now w.places.now.tested.bits) self.now.row.tables.bits self.now.row.tests.bits }
         ensures few { result.tries ≤ 2010 }
     {
         let model = self.work.model;
