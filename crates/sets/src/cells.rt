@@ -34,14 +34,7 @@ impl<'a, T: Copy> Ragged<'a, T> {
     pub fn get(&self, row: Row) -> Option<T>
         ensures { result ≡ slice_get self.now.cells.now (place_of self.now.tested.bits row.tables.bits row.tests.bits) }
     {
-        self.get_at(position(row, self.tested))
-    }
-
-    // What the cell at a place holds, where the place of the row is known.
-    pub fn get_at(&self, place: usize) -> Option<T>
-        ensures { result ≡ slice_get self.now.cells.now place }
-    {
-        self.cells.get(place).copied()
+        self.cells.get(position(row, self.tested)).copied()
     }
 
     // Writes the cell of the row, if there is such a cell, and says whether there is.

@@ -13,13 +13,13 @@ use plans::Entry;
 use pricing::PriceModel;
 use sets::{Row, SmallSet};
 
-impl<'a, M: PriceModel> RowTurn<'a, M> {
+impl<'a, 'w, M: PriceModel> RowTurn<'a, 'w, M> {
     // The join of the left tables with the others, if both sides have plans and a tie links them; `size` is that of the row.
     fn join_candidate(&self, size: u32, left: SmallSet) -> Option<Entry<M::Price>>
         requires sized { size ≡ size_of_set (asked self.now.work.now.catalogue.now) self.now.row.tables.bits self.now.row.tests.bits }
         requires part { left.bits ⊆ self.now.row.tables.bits }
         requires proper { (0 < left.bits) × (left.bits < self.now.row.tables.bits) }
-        ensures { let w = self.now.work.now in result ≡ joining_entry (M.meaning w.model.now) (asked w.catalogue.now) (held self.now.prices.now.cells.now self.now.choices.now.cells.now w.places.now.tested.bits) self.now.row.tables.bits self.now.row.tests.bits left.bits }
+        ensures { let w = self.now.work.now in result ≡ joining_entry (M.meaning w.model.now) (asked w.catalogue.now) (held self.now.prices.now self.now.choices.now w.places.now.tested.bits) self.now.row.tables.bits self.now.row.tests.bits left.bits }
     {
         let work = self.work;
         let right = self.row.tables.without(left);
@@ -39,7 +39,7 @@ impl<'a, M: PriceModel> RowTurn<'a, M> {
 
     // The test of a table on top, if it is one of the row's and what is below has a plan.
     fn test_candidate(&self, table: u8) -> Option<Entry<M::Price>>
-        ensures { let w = self.now.work.now in result ≡ testing_entry (M.meaning w.model.now) (asked w.catalogue.now) (held self.now.prices.now.cells.now self.now.choices.now.cells.now w.places.now.tested.bits) self.now.row.tables.bits self.now.row.tests.bits table }
+        ensures { let w = self.now.work.now in result ≡ testing_entry (M.meaning w.model.now) (asked w.catalogue.now) (held self.now.prices.now self.now.choices.now w.places.now.tested.bits) self.now.row.tables.bits self.now.row.tests.bits table }
     {
         let work = self.work;
         if !self.row.tests.contains(table) {
@@ -73,8 +73,8 @@ impl<'a, M: PriceModel> RowTurn<'a, M> {
     // The entry of the row, which has the size, from those of the rows before it.
     pub(crate) fn entry(&self, size: u32) -> Tried<M::Price>
         requires { size ≡ size_of_set (asked self.now.work.now.catalogue.now) self.now.row.tables.bits self.now.row.tests.bits }
-        ensures best { let w = self.now.work.now in result.best ≡ row_entry (M.meaning w.model.now) (asked w.catalogue.now) (held self.now.prices.now.cells.now self.now.choices.now.cells.now w.places.now.tested.bits) self.now.row.tables.bits self.now.row.tests.bits }
-        ensures tries { let w = self.now.work.now in result.tries ≡ tries_by (M.meaning w.model.now) (asked w.catalogue.now) (held self.now.prices.now.cells.now self.now.choices.now.cells.now w.places.now.tested.bits) self.now.row.tables.bits self.now.row.tests.bits }
+        ensures best { let w = self.now.work.now in result.best ≡ row_entry (M.meaning w.model.now) (asked w.catalogue.now) (held self.now.prices.now self.now.choices.now w.places.now.tested.bits) self.now.row.tables.bits self.now.row.tests.bits }
+        ensures tries { let w = self.now.work.now in result.tries ≡ tries_by (M.meaning w.model.now) (asked w.catalogue.now) (held self.now.prices.now self.now.choices.now w.places.now.tested.bits) self.now.row.tables.bits self.now.row.tests.bits }
         ensures few { result.tries ≤ 2010 }
     {
         let model = self.work.model;

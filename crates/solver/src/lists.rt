@@ -9,7 +9,7 @@ ghost use Rattle.std.specs.List.{slice_get};
 
 use catalogue::{Catalogue, Cuts};
 use pricing::PriceModel;
-use sets::{Places, Ragged, Row};
+use sets::{Places, Row};
 
 // A model and a question, with the cuts of the question's tables and the places of its rows.
 #[derive(Drop)]
@@ -22,15 +22,15 @@ pub(crate) struct Work<'a, M: PriceModel> {
     ghost tested: { places.now.tested.bits ≡ all_tests (asked catalogue.now) },
 }
 
-// The turn of a row: the tables hold the rows before it, each at its place.
+// The turn of a row: the lists hold the rows before it, each at its place.
 #[derive(Drop)]
-pub(crate) struct RowTurn<'a, M: PriceModel> {
-    pub work: &'a Work<'a, M>,
-    pub prices: &'a Ragged<'a, M::Price>,
-    pub sizes: &'a Ragged<'a, u32>,
-    pub choices: &'a Ragged<'a, u16>,
+pub(crate) struct RowTurn<'a, 'w, M: PriceModel> {
+    pub work: &'a Work<'w, M>,
+    pub prices: &'a [M::Price],
+    pub sizes: &'a [u32],
+    pub choices: &'a [u16],
     pub row: Row,
-    ghost turn: { Turn (asked work.now.catalogue.now) work.now.places.now.tested.bits row.tables.bits row.tests.bits sizes.now.cells.now },
+    ghost turn: { Turn (asked work.now.catalogue.now) work.now.places.now.tested.bits row.tables.bits row.tests.bits sizes.now },
 }
 
 // The price of a row's plan, and the row's size.
@@ -49,14 +49,14 @@ pub(crate) fn price_at<P: Copy>(prices: &[P], choices: &[u16], place: usize) -> 
     if *choice == 0 { None } else { Some(*price) }
 }
 
-impl<'a, M: PriceModel> RowTurn<'a, M> {
+impl<'a, 'w, M: PriceModel> RowTurn<'a, 'w, M> {
     // What the lists hold of a row that has a plan.
     pub(crate) fn side_at(&self, row: Row) -> Option<Side<M::Price>>
-        ensures { let w = self.now.work.now in result ≡ side_of (held self.now.prices.now.cells.now self.now.choices.now.cells.now w.places.now.tested.bits row.tables.bits row.tests.bits) (slice_get self.now.sizes.now.cells.now (place_of w.places.now.tested.bits row.tables.bits row.tests.bits)) }
+        ensures { let w = self.now.work.now in result ≡ side_of (held self.now.prices.now self.now.choices.now w.places.now.tested.bits row.tables.bits row.tests.bits) (slice_get self.now.sizes.now (place_of w.places.now.tested.bits row.tables.bits row.tests.bits)) }
     {
         let place = self.work.places.position(row);
-        let price = price_at(self.prices.cells(), self.choices.cells(), place)?;
-        let size = self.sizes.get_at(place)?;
+        let price = price_at(self.prices, self.choices, place)?;
+        let size = *self.sizes.get(place)?;
         Some(Side { price, size })
     }
 
@@ -71,8 +71,8 @@ impl<'a, M: PriceModel> RowTurn<'a, M> {
         };
         let others = tables.without_member(table);
         let rest = self.row.on(others);
-        match self.sizes.get_at(work.places.position(rest)) {
-            Some(size) => work.catalogue.size_from(table, tables, tests, size),
+        match self.sizes.get(work.places.position(rest)) {
+            Some(size) => work.catalogue.size_from(table, tables, tests, *size),
             None => work.catalogue.size(tables, tests),
         }
     }

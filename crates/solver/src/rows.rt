@@ -45,9 +45,9 @@ fn solve_row<M: PriceModel>(
 {
     let turn = RowTurn {
         work,
-        prices,
-        sizes,
-        choices,
+        prices: prices.cells(),
+        sizes: sizes.cells(),
+        choices: choices.cells(),
         row,
     };
     let size = turn.size();
