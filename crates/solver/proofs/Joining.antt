@@ -1,5 +1,5 @@
 -- A join, by what the code has of the two sides.
-use Rattle.std.proofs.Common.{◌≡◌, ℕ, ◌+◌, ◌-◌, ◌<◌, true, false, List, Some, None, Option, refl, ap, ◌∙◌, arith}
+use Rattle.std.proofs.Common.{◌≡◌, ℕ, ◌+◌, ◌-◌, ◌<◌, true, false, List, Some, None, Option, ap, ◌∙◌, arith}
 use lib.Bits.{bit_and}
 use Rattle.std.specs.List.{slice_get}
 use Rattle.pricing.specs.Models.{Model}

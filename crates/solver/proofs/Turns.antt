@@ -85,7 +85,7 @@ solved_end m Q p q prices₀ prices sizes₀ sizes choices₀ choices e = subst 
 pub solved_as : {P : Type 0} (m : Model P) (Q : Question) (p q : ℕ) (prices₀ a b : List P) (sizes₀ c d choices₀ e f : List ℕ) → p ≡ q → a ≡ b → c ≡ d → e ≡ f
     → Solved m Q p prices₀ a sizes₀ c choices₀ e → Solved m Q q prices₀ b sizes₀ d choices₀ f
 solved_as m Q p q prices₀ a b sizes₀ c d choices₀ e f end ab cd ef s =
-    subst (λ (n : ℕ). Solved m Q n prices₀ b sizes₀ d choices₀ f) end
+    solved_end m Q p q prices₀ b sizes₀ d choices₀ f end
     (subst (λ x. Solved m Q p prices₀ x sizes₀ d choices₀ f) ab
     (subst (λ (x : List ℕ). Solved m Q p prices₀ a sizes₀ x choices₀ f) cd
     (subst (λ (x : List ℕ). Solved m Q p prices₀ a sizes₀ c choices₀ x) ef s)))

@@ -1,5 +1,5 @@
 // Fills the lists, row by row.
-ghost use Rattle.std.specs.Prelude.{◌≡◌, ◌<◌, ◌≤◌, length, set as updated};
+ghost use Rattle.std.specs.Prelude.{◌≡◌, ◌≤◌, length, set as updated};
 ghost use Rattle.catalogue.specs.Asked.{asked};
 ghost use Rattle.plans.specs.Entries.{row_entry};
 ghost use Rattle.plans.specs.Questions.{all_tests, size};

@@ -78,10 +78,9 @@ returns g c =
     (λ none. omega (arith, none.1, i.end, i.within))
     (λ none. all_turns Q (zip_first it).start c.args.rows (zip_second it).next i.within i.turn none.1.0)
     c.in-None.ensures.steps in
-    let prices_lent = i.same.0.lender ∙ c.over-price_table.ensures.lender in
-    let sizes_lent = i.same.1.lender ∙ c.over-size_table.ensures.lender in
-    let choices_lent = i.same.2.lender ∙ c.over-choice_table.ensures.lender in
     record {
-      solved = solved_as m Q _ _ _ _ _ _ _ _ _ _ _ end (search rules) (search rules) (search rules) i.solved;
+      solved = solved_as m Q _ _ _ _ _ _ _ _ _ _ _ end
+          (search (rules, i.same.0.lender ∙ c.over-price_table.ensures.lender)) (search (rules, i.same.1.lender ∙ c.over-size_table.ensures.lender))
+          (search (rules, i.same.2.lender ∙ c.over-choice_table.ensures.lender)) i.solved;
       tries = i.tried ∙ ap (tries_before m Q) (end ∙ c.requires.all) ∙ tries_all m Q (tests_below Q);
     }
