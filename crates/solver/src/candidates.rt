@@ -1,5 +1,5 @@
 // The candidates of a row, and the best of them.
-ghost use Rattle.std.specs.Prelude.{◌≡◌, ◌-◌, ◌<◌, ◌≤◌};
+ghost use Rattle.std.specs.Prelude.{◌≡◌, ◌<◌, ◌≤◌};
 ghost use Rattle.catalogue.specs.Asked.{asked};
 ghost use Rattle.plans.specs.Entries.{alone_entry, joining_entry, row_entry, testing_entry};
 ghost use Rattle.plans.specs.Questions.{size as size_of_set};
