@@ -45,7 +45,17 @@ impl<'a, T: Copy> Ragged<'a, T> {
         ensures tested { self.new.tested ≡ self.old.tested }
         ensures lender { self.new.cells.ghost_name ≡ self.old.cells.ghost_name }
     {
-        let place = position(row, self.tested);
+        self.put_at(position(row, self.tested), value)
+    }
+
+    // Writes the cell at a place, where the place of the row is known.
+    pub fn put_at(&mut self, place: usize, value: T) -> bool
+        ensures held { result ≡ nat_lt place (length self.old.cells.now) }
+        ensures cells { self.new.cells.now ≡ updated self.old.cells.now place value }
+        ensures kept { result ≡ false → self.new.cells.now ≡ self.old.cells.now }
+        ensures tested { self.new.tested ≡ self.old.tested }
+        ensures lender { self.new.cells.ghost_name ≡ self.old.cells.ghost_name }
+    {
         if place >= self.cells.len() {
             return false;
         }

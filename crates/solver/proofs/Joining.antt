@@ -1,10 +1,11 @@
 -- A join, by what the code has of the two sides.
-use Rattle.std.proofs.Common.{◌≡◌, ℕ, ◌+◌, ◌-◌, ◌<◌, true, false, List, Some, None, Option, refl, ap, ◌∙◌, arith}
+use Rattle.std.proofs.Common.{◌≡◌, ℕ, ◌+◌, ◌-◌, ◌<◌, true, false, List, Some, None, Option, ap, ◌∙◌, arith}
 use lib.Bits.{bit_and}
 use Rattle.std.specs.List.{slice_get}
 use Rattle.pricing.specs.Models.{Model}
 use Rattle.sets.specs.Sets.{◌⊆◌}
 use Rattle.sets.specs.Rows.{place_of}
+use Rattle.sets.specs.declared.rows.Row.{Row}
 use Rattle.sets.proofs.Parts.{rest_part}
 use Rattle.plans.specs.Questions.{Question, across, linked, size}
 use Rattle.plans.specs.Entries.{joining_entry}
@@ -39,20 +40,22 @@ module _ {P : Type 0} (m : Model P) (Q G : Question) (table : ℕ → ℕ → Op
     tied : splits Q R L ≡ true
     tied = splits_by Q R L G B true cut.same rest cut.some cut.proper cut.part tie
 
-    left_read : (r : Option (Side P)) (S' : ℕ) → S' ≡ bit_and S L → Read r L S' → r ≡ side_of (table L (bit_and S L)) (Some (size Q L (bit_and S L)))
-    left_read r S' e h = part_read r table Q T R S sizes turn L L S' refl e cut.part cut.proper h
+    left_read : (r : Option (Side P)) (A S' : ℕ) → A ≡ L → S' ≡ bit_and S L → Read r A S' → r ≡ side_of (table L (bit_and S L)) (Some (size Q L (bit_and S L)))
+    left_read r A S' e f h = part_read r table Q T R S sizes turn L A S' e f cut.part cut.proper h
 
-    right_read : (r : Option (Side P)) (S' : ℕ) → S' ≡ bit_and S B → Read r B S' → r ≡ side_of (table (R - L) (bit_and S (R - L))) (Some (size Q (R - L) (bit_and S (R - L))))
-    right_read r S' e h = part_read r table Q T R S sizes turn (R - L) B S' rest e (rest_part L R cut.part) (omega (arith, cut.some, cut.proper)) h
+    right_read : (r : Option (Side P)) (A S' : ℕ) → A ≡ B → S' ≡ bit_and S B → Read r A S' → r ≡ side_of (table (R - L) (bit_and S (R - L))) (Some (size Q (R - L) (bit_and S (R - L))))
+    right_read r A S' e f h = part_read r table Q T R S sizes turn (R - L) A S' (e ∙ rest) (f ∙ ap (bit_and S) rest) (rest_part L R cut.part) (omega (arith, cut.some, cut.proper)) h
 
-    pub left_lost : (S' : ℕ) → S' ≡ bit_and S L → Read None L S' → None ≡ joining_entry m Q table R S L
-    left_lost S' e h = no_left m Q table R S L tied (left_read None S' e h)
+    pub left_lost : (A S' : ℕ) → A ≡ L → S' ≡ bit_and S L → Read None A S' → None ≡ joining_entry m Q table R S L
+    left_lost A S' e f h = no_left m Q table R S L tied (left_read None A S' e f h)
 
-    pub right_lost : (S' : ℕ) → S' ≡ bit_and S B → Read None B S' → None ≡ joining_entry m Q table R S L
-    right_lost S' e h = no_right m Q table R S L tied (right_read None S' e h)
+    pub right_lost : (A S' : ℕ) → A ≡ B → S' ≡ bit_and S B → Read None A S' → None ≡ joining_entry m Q table R S L
+    right_lost A S' e f h = no_right m Q table R S L tied (right_read None A S' e f h)
 
-    pub joined : (a b : Side P) (A' B' n costs choice : ℕ) → A' ≡ bit_and S L → B' ≡ bit_and S B → Read (Some a) L A' → Read (Some b) B B' → n ≡ size Q R S → costs ≡ across G L B → choice ≡ 4096 + L
+    -- The rows of the two sides, and what the lists hold of them.
+    pub joined : (a b : Side P) (l r : Row) (n costs choice : ℕ) → l.tables.bits ≡ L → l.tests.bits ≡ bit_and S L → r.tables.bits ≡ B → r.tests.bits ≡ bit_and S B
+        → Read (Some a) l.tables.bits l.tests.bits → Read (Some b) r.tables.bits r.tests.bits → n ≡ size Q R S → costs ≡ across G L B → choice ≡ 4096 + L
         → Some (record { price = m.joined a.price b.price a.size b.size n costs; choice = choice }) ≡ joining_entry m Q table R S L
-    joined a b A' B' n costs choice e f left right sized cost coded =
-        both_sides m Q table R S L tied a b n costs choice (left_read (Some a) A' e left) (right_read (Some b) B' f right) sized
+    joined a b l r n costs choice lt ls rt rs left right sized cost coded =
+        both_sides m Q table R S L tied a b n costs choice (left_read (Some a) l.tables.bits l.tests.bits lt ls left) (right_read (Some b) r.tables.bits r.tests.bits rt rs right) sized
         (cost ∙ ap (λ (q : Question). across q L B) cut.same ∙ ap (across Q L) rest) coded

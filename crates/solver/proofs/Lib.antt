@@ -10,3 +10,4 @@ pub mod Turns
 pub mod Wholes
 pub mod Joining
 pub mod Sides
+pub mod Tabled

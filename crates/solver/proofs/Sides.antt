@@ -46,15 +46,15 @@ side_as : {P : Type 0} (r : Option (Side P)) (table : ℕ → ℕ → Option (En
 side_as r table sizes T A B A' B' n e f at h = h ∙ ap₂ (λ (x y : ℕ). side_of (table x y) (slice_get sizes (place_of T x y))) e f ∙ ap (side_of (table A' B')) at
 
 -- of the tables A, with their tests
-pub part_read : {P : Type 0} (r : Option (Side P)) (table : ℕ → ℕ → Option (Entry P)) (Q : Question) (T R S : ℕ) (sizes : List ℕ) → Turn Q T R S sizes → (A A' B' : ℕ) → A' ≡ A → B' ≡ bit_and S A' → A ⊆ R → A < R
+pub part_read : {P : Type 0} (r : Option (Side P)) (table : ℕ → ℕ → Option (Entry P)) (Q : Question) (T R S : ℕ) (sizes : List ℕ) → Turn Q T R S sizes → (A A' B' : ℕ) → A' ≡ A → B' ≡ bit_and S A → A ⊆ R → A < R
     → r ≡ side_of (table A' B') (slice_get sizes (place_of T A' B')) → r ≡ side_of (table A (bit_and S A)) (Some (size Q A (bit_and S A)))
 part_read r table Q T R S sizes turn A A' B' e f part less h =
-    side_as r table sizes T A' B' A (bit_and S A) (size Q A (bit_and S A)) e (f ∙ ap (bit_and S) e) (part_sized Q T R S sizes turn A part less) h
+    side_as r table sizes T A' B' A (bit_and S A) (size Q A (bit_and S A)) e f (part_sized Q T R S sizes turn A part less) h
 
 -- of one test fewer
-pub test_read : {P : Type 0} (r : Option (Side P)) (table : ℕ → ℕ → Option (Entry P)) (Q : Question) (T R S : ℕ) (sizes : List ℕ) → Turn Q T R S sizes → (i S' : ℕ) → has S i ≡ true → S' ≡ S - 2 ^ i
-    → r ≡ side_of (table R S') (slice_get sizes (place_of T R S')) → r ≡ side_of (table R (S - 2 ^ i)) (Some (size Q R (S - 2 ^ i)))
-test_read r table Q T R S sizes turn i S' own e h = side_as r table sizes T R S' R (S - 2 ^ i) (size Q R (S - 2 ^ i)) refl e (test_sized Q T R S sizes turn i own) h
+pub test_read : {P : Type 0} (r : Option (Side P)) (table : ℕ → ℕ → Option (Entry P)) (Q : Question) (T R S : ℕ) (sizes : List ℕ) → Turn Q T R S sizes → (i R' S' : ℕ) → has S i ≡ true → R' ≡ R → S' ≡ S - 2 ^ i
+    → r ≡ side_of (table R' S') (slice_get sizes (place_of T R' S')) → r ≡ side_of (table R (S - 2 ^ i)) (Some (size Q R (S - 2 ^ i)))
+test_read r table Q T R S sizes turn i R' S' own e f h = side_as r table sizes T R' S' R (S - 2 ^ i) (size Q R (S - 2 ^ i)) e f (test_sized Q T R S sizes turn i own) h
 
 -- the entry is there just where the side is
 none_of : {P : Type 0} (e : Option (Entry P)) (n : ℕ) → None ≡ side_of e (Some n) → e ≡ None

@@ -75,15 +75,16 @@ module _ {P : Type 0} (m : Model P) (Q : Question) (p : ℕ) (prices₀ prices :
 -- ---- one row more
 
 module _ {P : Type 0} (m : Model P) (Q : Question) where
-  pub solved_none : (prices : List P) (sizes choices : List ℕ) (p : ℕ) → p ≡ 0 → Solved m Q p prices prices sizes sizes choices choices
-  solved_none prices sizes choices p z = record {
+  pub solved_none : (prices₀ prices : List P) (sizes₀ sizes choices₀ choices : List ℕ) (p : ℕ) → p ≡ 0 → prices ≡ prices₀ → sizes ≡ sizes₀ → choices ≡ choices₀
+      → Solved m Q p prices₀ prices sizes₀ sizes choices₀ choices
+  solved_none prices₀ prices sizes₀ sizes choices₀ choices p z ps ss cs = record {
     sizes_are = λ R S o l. absurd (omega arith);
     choices_are = λ R S o l. absurd (omega arith);
     prices_are = λ R S plan o l e. absurd (omega arith);
     prices_kept = λ R S o l e. absurd (omega arith);
-    prices_rest = λ k l. refl;
-    sizes_rest = λ k l. refl;
-    choices_rest = λ k l. refl;
+    prices_rest = λ k l. ap (λ (x : List P). slice_get x k) ps;
+    sizes_rest = λ k l. ap (λ (x : List ℕ). slice_get x k) ss;
+    choices_rest = λ k l. ap (λ (x : List ℕ). slice_get x k) cs;
   }
 
   code_choice : (b : Option Plan) → choice_of (entry m Q b) ≡ code b

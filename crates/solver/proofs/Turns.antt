@@ -81,6 +81,15 @@ pub solved_end : {P : Type 0} (m : Model P) (Q : Question) (p q : ℕ) (prices�
     → Solved m Q p prices₀ prices sizes₀ sizes choices₀ choices → Solved m Q q prices₀ prices sizes₀ sizes choices₀ choices
 solved_end m Q p q prices₀ prices sizes₀ sizes choices₀ choices e = subst (λ (k : ℕ). Solved m Q k prices₀ prices sizes₀ sizes choices₀ choices) e
 
+-- The same of lists that are equal.
+pub solved_as : {P : Type 0} (m : Model P) (Q : Question) (p q : ℕ) (prices₀ a b : List P) (sizes₀ c d choices₀ e f : List ℕ) → p ≡ q → a ≡ b → c ≡ d → e ≡ f
+    → Solved m Q p prices₀ a sizes₀ c choices₀ e → Solved m Q q prices₀ b sizes₀ d choices₀ f
+solved_as m Q p q prices₀ a b sizes₀ c d choices₀ e f end ab cd ef s =
+    solved_end m Q p q prices₀ b sizes₀ d choices₀ f end
+    (subst (λ x. Solved m Q p prices₀ x sizes₀ d choices₀ f) ab
+    (subst (λ (x : List ℕ). Solved m Q p prices₀ a sizes₀ x choices₀ f) cd
+    (subst (λ (x : List ℕ). Solved m Q p prices₀ a sizes₀ c choices₀ x) ef s)))
+
 -- Where no row comes, all have.
 pub all_turns : (Q : Question) (p rows : ℕ) (next : Option Row) → p ≤ rows → (p < rows → IsSomeAnd next (TurnAt Q p)) → None ≡ next → p ≡ rows
 all_turns Q p rows next l turn e = ⊎_elim

@@ -3,3 +3,4 @@ pub mod Ordered
 pub mod Solved
 pub mod Solves
 pub mod Tries
+pub mod Tabled

@@ -1,5 +1,5 @@
 // The candidates of a row, and the best of them.
-ghost use Rattle.std.specs.Prelude.{◌≡◌, ◌-◌, ◌<◌, ◌≤◌};
+ghost use Rattle.std.specs.Prelude.{◌≡◌, ◌<◌, ◌≤◌};
 ghost use Rattle.catalogue.specs.Asked.{asked};
 ghost use Rattle.plans.specs.Entries.{alone_entry, joining_entry, row_entry, testing_entry};
 ghost use Rattle.plans.specs.Questions.{size as size_of_set};
@@ -13,7 +13,7 @@ use plans::Entry;
 use pricing::PriceModel;
 use sets::{Row, SmallSet};
 
-impl<'a, M: PriceModel> RowTurn<'a, M> {
+impl<'a, 'w, M: PriceModel> RowTurn<'a, 'w, M> {
     // The join of the left tables with the others, if both sides have plans and a tie links them; `size` is that of the row.
     fn join_candidate(&self, size: u32, left: SmallSet) -> Option<Entry<M::Price>>
         requires sized { size ≡ size_of_set (asked self.now.work.now.catalogue.now) self.now.row.tables.bits self.now.row.tests.bits }
@@ -22,19 +22,12 @@ impl<'a, M: PriceModel> RowTurn<'a, M> {
         ensures { let w = self.now.work.now in result ≡ joining_entry (M.meaning w.model.now) (asked w.catalogue.now) (held self.now.prices.now self.now.choices.now w.places.now.tested.bits) self.now.row.tables.bits self.now.row.tests.bits left.bits }
     {
         let work = self.work;
-        let Row { tables, tests } = self.row;
-        let right = tables.without(left);
+        let right = self.row.tables.without(left);
         if !work.cuts.linked(left, right) {
             return None;
         }
-        let a = self.side_at(Row {
-            tables: left,
-            tests: tests.intersection(left),
-        })?;
-        let b = self.side_at(Row {
-            tables: right,
-            tests: tests.intersection(right),
-        })?;
+        let a = self.side_at(self.row.on(left))?;
+        let b = self.side_at(self.row.on(right))?;
         let costs = work.cuts.across(left, right);
         Some(Entry {
             price: work
@@ -49,15 +42,11 @@ impl<'a, M: PriceModel> RowTurn<'a, M> {
         ensures { let w = self.now.work.now in result ≡ testing_entry (M.meaning w.model.now) (asked w.catalogue.now) (held self.now.prices.now self.now.choices.now w.places.now.tested.bits) self.now.row.tables.bits self.now.row.tests.bits table }
     {
         let work = self.work;
-        let Row { tables, tests } = self.row;
-        if !tests.contains(table) {
+        if !self.row.tests.contains(table) {
             return None;
         }
         let test = work.catalogue.test_of(table)?;
-        let below = self.side_at(Row {
-            tables,
-            tests: tests.without_member(table),
-        })?;
+        let below = self.side_at(self.row.without_test(table))?;
         let rows = work.catalogue.charged_rows(table, below.size);
         Some(Entry {
             price: work.model.tested(below.price, rows, test.cost, test.kind),

@@ -24,8 +24,8 @@ pub(crate) struct Work<'a, M: PriceModel> {
 
 // The turn of a row: the lists hold the rows before it, each at its place.
 #[derive(Drop)]
-pub(crate) struct RowTurn<'a, M: PriceModel> {
-    pub work: &'a Work<'a, M>,
+pub(crate) struct RowTurn<'a, 'w, M: PriceModel> {
+    pub work: &'a Work<'w, M>,
     pub prices: &'a [M::Price],
     pub sizes: &'a [u32],
     pub choices: &'a [u16],
@@ -49,7 +49,7 @@ pub(crate) fn price_at<P: Copy>(prices: &[P], choices: &[u16], place: usize) -> 
     if *choice == 0 { None } else { Some(*price) }
 }
 
-impl<'a, M: PriceModel> RowTurn<'a, M> {
+impl<'a, 'w, M: PriceModel> RowTurn<'a, 'w, M> {
     // What the lists hold of a row that has a plan.
     pub(crate) fn side_at(&self, row: Row) -> Option<Side<M::Price>>
         ensures { let w = self.now.work.now in result ≡ side_of (held self.now.prices.now self.now.choices.now w.places.now.tested.bits row.tables.bits row.tests.bits) (slice_get self.now.sizes.now (place_of w.places.now.tested.bits row.tables.bits row.tests.bits)) }
@@ -70,10 +70,7 @@ impl<'a, M: PriceModel> RowTurn<'a, M> {
             return work.catalogue.size(tables, tests);
         };
         let others = tables.without_member(table);
-        let rest = Row {
-            tables: others,
-            tests: tests.intersection(others),
-        };
+        let rest = self.row.on(others);
         match self.sizes.get(work.places.position(rest)) {
             Some(size) => work.catalogue.size_from(table, tables, tests, *size),
             None => work.catalogue.size(tables, tests),

@@ -3,6 +3,7 @@ use Rattle.std.specs.Iterator.Adapters.{zip_first, zip_second}
 use Rattle.catalogue.specs.Asked.{asked}
 use Rattle.plans.specs.Questions.{all_tests}
 use Rattle.solver.specs.Solved.{Solved}
+use Rattle.solver.specs.Tabled.{SameTable}
 use Rattle.solver.proofs.Summing.{tries_before}
 use Rattle.solver.proofs.Turns.{TurnAt}
 use Rattle.solver.proofs.rows.fill_rows.Given as goal
@@ -19,7 +20,8 @@ invariant-loop-place g l =
       end : left.end ≡ l.rows;
       within : left.start ≤ l.rows;
       turn : left.start < l.rows → IsSomeAnd (zip_second l.place-iterator).next (TurnAt Q left.start);
-      solved : Solved m Q left.start l.fn.prices l.prices l.fn.sizes l.sizes l.fn.choices l.choices;
+      same : SameTable l.initial.price_table l.price_table × SameTable l.initial.size_table l.size_table × SameTable l.initial.choice_table l.choice_table;
+      solved : Solved m Q left.start l.fn.prices l.price_table.cells.now l.fn.sizes l.size_table.cells.now l.fn.choices l.choice_table.cells.now;
       tried : l.tries ≡ tries_before m Q left.start;
       few : l.tries ≤ 2010 * left.start;
     }

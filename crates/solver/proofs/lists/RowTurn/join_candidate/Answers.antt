@@ -20,14 +20,14 @@ returns-in_err-a g c =
     let t = c.args.self.now in
     let table = held t.prices.now t.choices.now t.work.now.places.now.tested.bits in
     c.from_residual.ensures
-    ∙ left_lost (g.M.PriceModel.meaning t.work.now.model.now) _ _ table _ _ _ _ _ t.sizes.now t.turn (cut g (goal.at.returns-in_err-a g c).After-without-right) c.if-not-linked.ensures _ c.intersection.ensures c.in_err-a.ensures
+    ∙ left_lost (g.M.PriceModel.meaning t.work.now.model.now) _ _ table _ _ _ _ _ t.sizes.now t.turn (cut g (goal.at.returns-in_err-a g c).After-without-right) c.if-not-linked.ensures _ _ c.on.ensures.tables c.on.ensures.tests c.in_err-a.ensures
 
 pub returns-in_err-b : goal.returns-in_err-b
 returns-in_err-b g c =
     let t = c.args.self.now in
     let table = held t.prices.now t.choices.now t.work.now.places.now.tested.bits in
     c.from_residual-in_err-b.ensures
-    ∙ right_lost (g.M.PriceModel.meaning t.work.now.model.now) _ _ table _ _ _ _ _ t.sizes.now t.turn (cut g (goal.at.returns-in_err-b g c).After-without-right) c.if-not-linked.ensures _ c.intersection-2.ensures c.in_err-b.ensures
+    ∙ right_lost (g.M.PriceModel.meaning t.work.now.model.now) _ _ table _ _ _ _ _ t.sizes.now t.turn (cut g (goal.at.returns-in_err-b g c).After-without-right) c.if-not-linked.ensures _ _ c.on-2.ensures.tables c.on-2.ensures.tests c.in_err-b.ensures
 
 pub returns : goal.returns
 returns g c =
@@ -35,5 +35,5 @@ returns g c =
     let table = held t.prices.now t.choices.now t.work.now.places.now.tested.bits in
     ap (λ p. Some (record { price = p; choice = 4096 + c.bits.result })) c.joined.ensures
     ∙ joined (g.M.PriceModel.meaning t.work.now.model.now) _ _ table _ _ _ _ _ t.sizes.now t.turn (cut g (goal.at.returns g c).After-without-right) c.if-not-linked.ensures
-    c.in_ok-a.a c.in_ok-b.b _ _ c.args.size c.across-costs.result (4096 + c.bits.result) c.intersection.ensures c.intersection-2.ensures c.in_ok-a.ensures c.in_ok-b.ensures
+    c.in_ok-a.a c.in_ok-b.b c.on.result c.on-2.result c.args.size c.across-costs.result (4096 + c.bits.result) c.on.ensures.tables c.on.ensures.tests c.on-2.ensures.tables c.on-2.ensures.tests c.in_ok-a.ensures c.in_ok-b.ensures
     c.requires.sized c.across-costs.ensures (omega (arith, c.bits.ensures))
