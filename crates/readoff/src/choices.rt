@@ -6,11 +6,11 @@ ghost use Rattle.readoff.specs.Leads.{choice_in};
 use sets::{Row, SmallSet, position};
 
 // The code of a bare table, and the first of those of tests and of joins.
-const TABLE: u16 = 1;
+pub const BARE_TABLE: u16 = 1;
 
-const FIRST_TEST: u16 = 256;
+pub const FIRST_TEST: u16 = 256;
 
-const FIRST_JOIN: u16 = 4096;
+pub const FIRST_JOIN: u16 = 4096;
 
 // What stands on top of a plan, and the rows of what is below it.
 #[derive(Clone, Copy, PartialEq, Eq, Debug)]
@@ -35,7 +35,7 @@ fn choice_of(code: u16, row: Row) -> Option<Choice>
         join_of(code, row)
     } else if code >= FIRST_TEST {
         test_of(code, row)
-    } else if code == TABLE {
+    } else if code == BARE_TABLE {
         table_of(row)
     } else {
         None

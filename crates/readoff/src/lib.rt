@@ -14,7 +14,7 @@ mod choices;
 mod reading;
 
 use buffers::Bytes;
-pub use choices::{Choice, choice_at};
+pub use choices::{BARE_TABLE, Choice, FIRST_JOIN, FIRST_TEST, choice_at};
 use reading::emit;
 use sets::{Row, SmallSet};
 

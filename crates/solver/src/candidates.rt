@@ -11,6 +11,7 @@ use crate::left_sides::LeftSides;
 use crate::lists::RowTurn;
 use plans::Entry;
 use pricing::PriceModel;
+use readoff::{BARE_TABLE, FIRST_JOIN, FIRST_TEST};
 use sets::{Row, SmallSet};
 
 impl<'a, 'w, M: PriceModel> RowTurn<'a, 'w, M> {
@@ -33,7 +34,7 @@ impl<'a, 'w, M: PriceModel> RowTurn<'a, 'w, M> {
             price: work
                 .model
                 .joined(a.price, b.price, a.size, b.size, size, costs),
-            choice: 4096 + left.bits(),
+            choice: FIRST_JOIN + left.bits(),
         })
     }
 
@@ -50,7 +51,7 @@ impl<'a, 'w, M: PriceModel> RowTurn<'a, 'w, M> {
         let rows = work.catalogue.charged_rows(table, below.size);
         Some(Entry {
             price: work.model.tested(below.price, rows, test.cost, test.kind),
-            choice: 256 + table as u16,
+            choice: FIRST_TEST + table as u16,
         })
     }
 
@@ -66,7 +67,7 @@ impl<'a, 'w, M: PriceModel> RowTurn<'a, 'w, M> {
         }
         Some(Entry {
             price: work.model.bare(work.catalogue.rows_of(table)),
-            choice: 1,
+            choice: BARE_TABLE,
         })
     }
 
