@@ -14,10 +14,7 @@ use Rattle.bench_calls.specs.Built.{tie_at, test_at}
 
 at_once : {X : Type 0} (b : Bool) (e : ChangeRefusal) (next : Result X ChangeRefusal) → b ≡ true → unless b e next ≡ Err e
 at_once true e next h = refl
-at_once false e next h = absurd (let z : ◌≡◌ {A = Bool} false true = h in both z)
-  where
-    both : ◌≡◌ {A = Bool} false true → ⊥
-    both z = let n : ◌≡◌ {A = ℕ} 0 1 = cc in omega arith
+at_once false e next h = cc
 
 same : (n : ℕ) → n < 10 → min n 255 ≡ n
 same n h = min-eq_left (let l : n ≤ 255 = omega arith in l)
