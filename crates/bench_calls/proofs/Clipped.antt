@@ -1,7 +1,7 @@
 -- A table or a kind above 255 is as missing as 255 itself.
-use Rattle.std.proofs.Common.{◌≡◌, ℕ, zero, suc, ◌+◌, ◌*◌, ◌/◌, ◌<◌, ◌≤◌, min, Bool, true, false, ◌||◌, leb, ◌⊎◌, List, [], length, get_or, drop, Err, Option, Result, sym, refl, ap, ◌∙◌, inl, inr, arith}
+use Rattle.std.proofs.Common.{◌≡◌, ℕ, zero, suc, ◌+◌, ◌*◌, ◌/◌, ◌<◌, ◌≤◌, min, Bool, true, false, ◌||◌, ◌⊎◌, List, [], length, get_or, drop, Err, Option, Result, sym, refl, ap, ◌∙◌, inl, inr, arith}
 use native.Mathlib.Nat.{min-eq_left, min-eq_right}
-use Rattle.std.proofs.lemmas.Bool.{cases_Bool, cases_lt, le-leb, leb-false, or_cases, or_parts, or_left, or_right}
+use Rattle.std.proofs.lemmas.Bool.{cases_Bool, cases_lt, le-leb, leb-true, leb-false, or_cases, or_parts, or_left, or_right}
 use Rattle.std.proofs.lemmas.List.{get_or-take, get_or-drop}
 use Rattle.std.specs.Simd.{first_chunks}
 use Rattle.pricing.specs.Kinds.{kind_of}
@@ -17,7 +17,7 @@ at_once true e next h = refl
 at_once false e next h = cc
 
 same : (n : ℕ) → n < 10 → min n 255 ≡ n
-same n h = min-eq_left (let l : n ≤ 255 = omega arith in l)
+same n h = omega arith
 
 -- A number of one of the chunks.
 chunk_at : (n k : ℕ) (xs : List ℕ) (j : ℕ) → k < n → j < 5 → get_or (get_or (first_chunks 5 n xs) k []) j 0 ≡ get_or xs (k * 5 + j) 0
@@ -31,11 +31,7 @@ alike call a a' b b' c c' d d' e e' p q r s t = cc
 
 module _ (Q : Question) (few : Q.count ≤ 10) where
   still_missing : (a : ℕ) → missing Q a ≡ true → missing Q (min a 255) ≡ true
-  still_missing a m = by (cases_lt 255 a)
-    where
-      by : (255 < a) ⊎ (a ≤ 255) → missing Q (min a 255) ≡ true
-      by (inl h) = le-leb Q.count (min a 255) (omega (arith, min-eq_right {n = 255} {m = a} (let l : 255 ≤ a = omega arith in l)))
-      by (inr h) = ap (leb Q.count) (min-eq_left h) ∙ m
+  still_missing a m = le-leb Q.count (min a 255) (omega (arith, leb-true Q.count a m))
 
   tied_clipped : (a b p q cost : ℕ) → tied Q (min a 255) (min b 255) p q cost ≡ tied Q a b p q cost
   tied_clipped a b p q cost = by (cases_Bool (missing Q a || missing Q b))
