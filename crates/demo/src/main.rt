@@ -10,7 +10,10 @@ use planning::planned;
 use plans::Step;
 use pricing::{Clock, FetchesFirst, PriceModel};
 use sample::sample;
-use sheet::{BY_NUMBER, CORRECTED, ROWS, Worded, print_cost, print_tables, read_line, table_name};
+use sheet::{
+    BY_NUMBER, CORRECTED, ROWS, Worded, print_by_number, print_cost, print_tables, read_line,
+    table_name,
+};
 use solver::Solution;
 use std::io;
 
@@ -52,16 +55,6 @@ fn print_cheapest<M: Worded>(
     }
 }
 
-// What the plan that follows the tables' numbers would cost by the clock.
-fn print_by_number(rt: &HostRuntime, question: &Catalogue) -> io::Result<()> {
-    let mut prices = [0; 10];
-    print!(rt; "  tests first and joins by number: ")?;
-    match check(&Clock, question, &BY_NUMBER, &mut prices) {
-        Ok(price) => println!(rt; "{}", Clock.words(price)),
-        Err(refusal) => println!(rt; "no plan (refusal {})", refusal.number()),
-    }
-}
-
 // The cheapest plans, and one that is not.
 fn print_plans(rt: &HostRuntime, question: &Catalogue) -> io::Result<()> {
     print_cheapest(rt, &Clock, question, &mut [Clock.bare(0); ROWS])?;
@@ -71,7 +64,8 @@ fn print_plans(rt: &HostRuntime, question: &Catalogue) -> io::Result<()> {
         question,
         &mut [FetchesFirst.bare(0); ROWS],
     )?;
-    print_by_number(rt, question)
+    let checked = check(&Clock, question, &BY_NUMBER, &mut [0; 10]);
+    print_by_number(rt, &Clock, checked)
 }
 
 // One line of the sheet: corrects the question, or says why not and leaves it as it was.

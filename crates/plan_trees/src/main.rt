@@ -10,7 +10,9 @@ use planning::plan;
 use pricing::{Clock, FetchPrice, FetchesFirst, PriceModel};
 use sample::planned;
 use sets::Row;
-use sheet::{BY_NUMBER, CORRECTED, ROWS, Worded, print_cost, print_tables, read_line};
+use sheet::{
+    BY_NUMBER, CORRECTED, ROWS, Worded, print_by_number, print_cost, print_tables, read_line,
+};
 use std::io;
 use trees::{Solved, print_tree};
 
@@ -21,20 +23,6 @@ fn print_bytes(rt: &HostRuntime, bytes: &[u8]) -> io::Result<()> {
         print!(rt; " {byte:02X}")?;
     }
     println!(rt; "")
-}
-
-// What the plan that follows the tables' numbers would cost.
-fn print_by_number<M: Worded>(
-    rt: &HostRuntime,
-    model: &M,
-    question: &Question<M>,
-    prices: &mut [M::Price],
-) -> io::Result<()> {
-    print!(rt; "  tests first and joins by number: ")?;
-    match question.check(&BY_NUMBER, prices) {
-        Ok(price) => println!(rt; "{}", model.words(price)),
-        Err(refusal) => println!(rt; "no plan (refusal {})", refusal.number()),
-    }
 }
 
 // The cheapest plan as a tree and in bytes, and another plan beside it.
@@ -68,7 +56,7 @@ fn print_plan<M: Worded>(
             println!(rt; "  {}: no plan (refusal {})", M::TITLE, refusal.number())?;
         }
     }
-    print_by_number(rt, model, question, prices)
+    print_by_number(rt, model, question.check(&BY_NUMBER, prices))
 }
 
 // Whether a plan stands.

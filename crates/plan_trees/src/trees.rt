@@ -6,7 +6,7 @@ use sheet::{Worded, table_name};
 use std::io;
 
 // The lists after a solve; `tested` are the tables that have a test.
-#[derive(Clone, Copy)]
+#[derive(Clone, Copy, PartialEq, Eq, Debug)]
 pub struct Solved<'a, P> {
     pub prices: &'a [P],
     pub sizes: &'a [u32],

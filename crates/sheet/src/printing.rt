@@ -3,8 +3,9 @@ ghost use Rattle.std.specs.Prelude.{◌≡◌, IfOk};
 ghost use Rattle.std.specs.Result.{result_ok};
 ghost use Rattle.reading.specs.Outcomes.{reading};
 
-use crate::{CORRECTED, table_name};
+use crate::{CORRECTED, Worded, table_name};
 use catalogue::Catalogue;
+use checker::CheckRefusal;
 use reading::read;
 use std::io;
 
@@ -27,6 +28,19 @@ pub fn print_cost(rt: &HostRuntime, question: &Catalogue) -> io::Result<()> {
             )
         }
         None => Ok(()),
+    }
+}
+
+// What the plan that follows the tables' numbers would cost.
+pub fn print_by_number<M: Worded>(
+    rt: &HostRuntime,
+    model: &M,
+    checked: Result<M::Price, CheckRefusal>,
+) -> io::Result<()> {
+    print!(rt; "  tests first and joins by number: ")?;
+    match checked {
+        Ok(price) => println!(rt; "{}", model.words(price)),
+        Err(refusal) => println!(rt; "no plan (refusal {})", refusal.number()),
     }
 }
 
