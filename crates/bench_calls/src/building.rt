@@ -6,7 +6,7 @@ ghost use Rattle.catalogue.specs.Asked.{asked};
 use catalogue::{Catalogue, ChangeRefusal};
 
 // Each tie and each test is so many numbers.
-pub const WIDTH: usize = 5;
+const WIDTH: usize = 5;
 
 // The number, or 255 for one above it; no table and no kind has 255.
 fn clipped(number: u16) -> u8
@@ -29,10 +29,9 @@ fn add_tables(question: &mut Catalogue, rows: &[u32]) -> Result<(), ChangeRefusa
 fn add_ties(question: &mut Catalogue, ties: &[u16]) -> Result<(), ChangeRefusal>
     ensures { left_by result (asked question.new) ≡ ties_of (asked question.old) ties.now }
 {
-    for k in 0..ties.len() / WIDTH {
-        let at = k * WIDTH;
-        let (table, other) = (clipped(ties[at]), clipped(ties[at + 1]));
-        question.tie(table, other, ties[at + 2], ties[at + 3], ties[at + 4])?;
+    for tie in ties.as_chunks::<WIDTH>().0 {
+        let [table, other, p, q, cost] = *tie;
+        question.tie(clipped(table), clipped(other), p, q, cost)?;
     }
     Ok(())
 }
@@ -41,10 +40,9 @@ fn add_ties(question: &mut Catalogue, ties: &[u16]) -> Result<(), ChangeRefusal>
 fn add_tests(question: &mut Catalogue, tests: &[u16]) -> Result<(), ChangeRefusal>
     ensures { left_by result (asked question.new) ≡ tests_of (asked question.old) tests.now }
 {
-    for k in 0..tests.len() / WIDTH {
-        let at = k * WIDTH;
-        let (table, kind) = (clipped(tests[at]), clipped(tests[at + 4]));
-        question.test(table, tests[at + 1], tests[at + 2], tests[at + 3], kind)?;
+    for test in tests.as_chunks::<WIDTH>().0 {
+        let [table, p, q, cost, kind] = *test;
+        question.test(clipped(table), p, q, cost, clipped(kind))?;
     }
     Ok(())
 }

@@ -2,7 +2,7 @@
 
 // The refusal's number, or 0 with the plan in bytes, of which the first `len` count, its price and the tries it took.
 #[repr(C)]
-#[derive(Clone, Copy)]
+#[derive(Clone, Copy, PartialEq, Eq, Debug)]
 pub struct Told {
     pub refusal: u64,
     pub price: u64,

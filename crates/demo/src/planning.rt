@@ -4,10 +4,8 @@ ghost use Rattle.solver.specs.Solves.{Cheapest};
 
 use catalogue::Catalogue;
 use pricing::PriceModel;
+use sheet::ROWS;
 use solver::{Solution, SolveRefusal, solve};
-
-// Working rows of four tables with two tests: 2 x 2 x 3 x 3.
-pub const ROWS: usize = 36;
 
 // The cheapest plan, worked out in lent room for prices, or why there is none.
 pub fn planned<M: PriceModel>(

@@ -2,17 +2,9 @@
 ghost use Rattle.std.specs.Prelude.{◌≡◌, MatchResult};
 ghost use Rattle.catalogue.specs.Asked.{asked};
 ghost use Rattle.catalogue.specs.Changes.{empty};
-ghost use Rattle.demo.specs.Sample.{sample as sample_question, tables, ties};
+ghost use Rattle.sheet.specs.Sample.{sample as sample_question, tables, ties};
 
 use catalogue::{Catalogue, ChangeRefusal};
-
-// The table whose test the sheet corrects.
-pub const CORRECTED: u8 = 0;
-
-// A plan written by hand: each table tested as it comes, and joined by its number.
-pub const BY_NUMBER: [u8; 18] = [
-    0x10, 0, 0x11, 0, 0x10, 1, 0x12, 0, 0x10, 2, 0x11, 2, 0x12, 0, 0x10, 3, 0x12, 0,
-];
 
 // Films, the reels that hold them, the cartridges of the reels and their shelves.
 fn add_tables(question: &mut Catalogue) -> Result<(), ChangeRefusal>

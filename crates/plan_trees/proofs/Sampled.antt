@@ -12,7 +12,7 @@ use Rattle.planner.specs.States.{State, fresh}
 use Rattle.planner.specs.declared.calls.Call as code
 use Rattle.planner.specs.declared.calls.Call.TheVariants.{Table, Tie, Test, Solve, Tell}
 use Rattle.planner.proofs.Promise.{law, run_alone}
-use Rattle.plan_trees.specs.Sample.{sample}
+use Rattle.sheet.specs.Sample.{sample}
 
 abbrev pub calls : List code.Call
 calls =

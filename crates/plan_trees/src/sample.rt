@@ -1,17 +1,11 @@
 // A question of four tables, as the calls that ask it.
 ghost use Rattle.std.specs.Prelude.{◌≡◌};
 ghost use Rattle.catalogue.specs.Asked.{asked};
-ghost use Rattle.plan_trees.specs.Sample.{sample as sample_question};
+ghost use Rattle.sheet.specs.Sample.{sample as sample_question};
 ghost use Rattle.planner.specs.Made.{Asked};
 
 use planner::{Call, Question, Reply, replay};
 use pricing::PriceModel;
-
-// The table whose test the sheet corrects.
-pub const CORRECTED: u8 = 0;
-
-// Working rows of four tables with two tests: 2 x 2 x 3 x 3.
-pub const ROWS: usize = 36;
 
 // Films, the reels that hold them, the cartridges of the reels and their shelves, each tied to the next.
 // A film is fetched to test it, and a cartridge looked up.
@@ -57,11 +51,6 @@ const CALLS: [Call<'static>; 11] = [
     },
     Call::Solve,
     Call::Tell,
-];
-
-// A plan written by hand: each table tested as it comes, and joined by its number.
-pub const BY_NUMBER: [u8; 18] = [
-    0x10, 0, 0x11, 0, 0x10, 1, 0x12, 0, 0x10, 2, 0x11, 2, 0x12, 0, 0x10, 3, 0x12, 0,
 ];
 
 // Asks the question and plans it, in the lists that are lent.

@@ -1,12 +1,12 @@
 // A plan as an indented tree, from the lists that it was found in.
-use crate::words::{Worded, table_name};
 use pricing::PriceModel;
 use readoff::{Choice, choice_at};
 use sets::{Row, SmallSet, position};
+use sheet::{Worded, table_name};
 use std::io;
 
 // The lists after a solve; `tested` are the tables that have a test.
-#[derive(Clone, Copy)]
+#[derive(Clone, Copy, PartialEq, Eq, Debug)]
 pub struct Solved<'a, P> {
     pub prices: &'a [P],
     pub sizes: &'a [u32],
@@ -30,12 +30,10 @@ fn print_row<M: Worded>(
     row: Row,
 ) -> io::Result<()> {
     let place = position(row, solved.tested);
-    if place < solved.prices.len() && place < solved.sizes.len() {
-        let size = solved.sizes[place];
-        print!(rt; ": {size} rows, ")?;
-        model.print_price(rt, solved.prices[place])?;
+    match (solved.sizes.get(place), solved.prices.get(place)) {
+        (Some(size), Some(price)) => println!(rt; ": {size} rows, {}", model.words(*price)),
+        _ => println!(rt; ""),
     }
-    println!(rt; "")
 }
 
 // An operation, and below it what it works on.
@@ -53,13 +51,11 @@ pub fn print_tree<M: Worded>(
     let below = depth.saturating_add(1);
     match choice {
         Choice::Table(table) => {
-            let name = table_name(table);
-            print!(rt; "{name}")?;
+            print!(rt; "{}", table_name(table))?;
             print_row(rt, model, solved, row)
         }
         Choice::Test { test, input } => {
-            let name = table_name(test);
-            print!(rt; "test the {name}")?;
+            print!(rt; "test the {}", table_name(test))?;
             print_row(rt, model, solved, row)?;
             print_tree(rt, model, solved, input, below)
         }

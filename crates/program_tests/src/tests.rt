@@ -1,5 +1,5 @@
 // Inputs of many kinds, with what each program must write.
-use pricing::{Clock, FetchesFirst, PriceModel};
+use pricing::{Clock, FetchesFirst, PriceModel, PrintableModel};
 use program::run;
 
 // Rows enough for every question here that has an answer.
@@ -179,20 +179,29 @@ const BY_FETCHES: [Case; 3] = [
     },
 ];
 
-// What the Clock program writes is the output.
-fn clock_writes(input: &[u8], output: &[u8]) -> bool {
-    let mut prices = [Clock.bare(0); ROWS];
+// What the program of a model writes for the input, in lent room for prices, is the output.
+fn writes<M: PrintableModel + Drop>(
+    model: M,
+    prices: &mut [M::Price; ROWS],
+    input: &[u8],
+    output: &[u8],
+) -> bool {
     let mut sizes = [0; ROWS];
     let mut choices = [0; ROWS];
-    run(Clock, input, &mut prices, &mut sizes, &mut choices).as_slice() == output
+    run(model, input, prices, &mut sizes, &mut choices).as_slice() == output
 }
 
-// What the Fetches first program writes is the output.
+fn clock_writes(input: &[u8], output: &[u8]) -> bool {
+    writes(Clock, &mut [Clock.bare(0); ROWS], input, output)
+}
+
 fn fetches_write(input: &[u8], output: &[u8]) -> bool {
-    let mut prices = [FetchesFirst.bare(0); ROWS];
-    let mut sizes = [0; ROWS];
-    let mut choices = [0; ROWS];
-    run(FetchesFirst, input, &mut prices, &mut sizes, &mut choices).as_slice() == output
+    writes(
+        FetchesFirst,
+        &mut [FetchesFirst.bare(0); ROWS],
+        input,
+        output,
+    )
 }
 
 #[test]
@@ -215,7 +224,7 @@ fn each_answers(rt: HostRuntime) {
 
 // The first bytes of an input.
 fn first(input: &[u8], count: usize) -> &[u8] {
-    &input[0..count.min(input.len())]
+    input.get(..count).unwrap_or(input)
 }
 
 // A line of so many pairs of zeros.
@@ -247,13 +256,7 @@ fn every_byte(rt: HostRuntime) {
 
 // Whether a frame of the kind may have so many bytes.
 fn fits(kind: u8, len: usize) -> bool {
-    match kind {
-        1 => len == 5,
-        2 | 3 => len == 9,
-        4 => len >= 7 && len <= 9,
-        5 => len == 1,
-        _ => false,
-    }
+    matches!((kind, len), (1, 5) | (2 | 3, 9) | (4, 7..=9) | (5, 1))
 }
 
 // A frame of so many bytes: zeros after the kind byte.

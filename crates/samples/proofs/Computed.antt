@@ -1,5 +1,5 @@
 -- The samples, by computation.
-use Rattle.std.proofs.Common.{◌≡◌, ℕ, [], ◌∷◌, sym, refl, ◌∙◌, subst, inl, inr, arith}
+use Rattle.std.proofs.Common.{◌≡◌, [], ◌∷◌, sym, refl, ◌∙◌, subst, inl, inr, arith}
 use lib.Count.{ones}
 use Rattle.sets.specs.Sets.{has, members, any_below, sum_below}
 use Rattle.plans.specs.Questions.{tie_of, base, narrowed, size_of, linked, cost_of, across, all_tests}
@@ -27,7 +27,7 @@ joined_alone = join (bare 0) (bare 1)
 
 lacks_test : Answers (fetching 1 40000) joined_alone → ⊥
 unfolding joined_alone tests all_tests sum_below tie_of
-lacks_test valid = let none : ◌≡◌ {A = ℕ} 0 1 = valid.just_tests in omega arith
+lacks_test valid = cc valid.just_tests
 
 spelled_alone : spelled joined_alone ≡ 0x10 ∷ 0 ∷ 0x10 ∷ 1 ∷ 0x12 ∷ 0 ∷ []
 unfolding joined_alone spelled
@@ -42,8 +42,8 @@ samples = record {
   choices = refl;
   sizes = refl;
   clock_tells = (_, (refl, refl), inr (λ l. omega arith, (refl, refl)));
-  check_priced = inr (λ l. omega arith, inr (λ e. let z : ◌≡◌ {A = ℕ} 0 1 = cc in omega arith, inr (λ none. none (_, (refl, test_first_valid)), (_, (refl, test_first_valid), (refl, refl)))));
-  check_without_test = inr (λ l. omega arith, inr (λ e. let z : ◌≡◌ {A = ℕ} 0 1 = cc in omega arith, inl (λ s. test_missing s.0 s.1.0 s.1.1, (refl, refl))));
+  check_priced = inr (λ l. omega arith, inr (λ e. cc, inr (λ none. none (_, (refl, test_first_valid)), (_, (refl, test_first_valid), (refl, refl)))));
+  check_without_test = inr (λ l. omega arith, inr (λ e. cc, inl (λ s. test_missing s.0 s.1.0 s.1.1, (refl, refl))));
   fetches_tells = (_, (_, (refl, refl), inr (λ l. omega arith, (refl, refl))), refl, refl);
   clock_tests_first = (_, (refl, refl), inr (λ l. omega arith, (refl, refl)));
   fetches_joins_first = (_, (_, (refl, refl), inr (λ l. omega arith, (refl, refl))), refl, refl);
