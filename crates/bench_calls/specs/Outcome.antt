@@ -1,5 +1,6 @@
 -- What bench_solve tells, and what it leaves in the lists.
-use Rattle.std.specs.Prelude.{◌≡◌, ℕ, List, length, replicate, Ok, Err, Result}
+use Rattle.std.specs.Prelude.{◌≡◌, ℕ, List, ◌++◌, length, drop, replicate, Ok, Err, Result}
+use Rattle.buffers.specs.Written.{written}
 use Rattle.pricing.specs.Clocks.{clock}
 use Rattle.plans.specs.Questions.{Question}
 use Rattle.catalogue.specs.Refusals.{change_number}
@@ -12,8 +13,12 @@ use Rattle.bench_calls.specs.declared.told.Told.{Told}
 abbrev pub refusal_told : (number : ℕ) → Told
 refusal_told number = record { refusal = number; price = 0; tries = 0; len = 0; bytes = replicate 58 0 }
 
+-- The plan's bytes, and zeros behind them.
+abbrev pub padded : List ℕ → List ℕ
+padded bytes = bytes ++ drop (length bytes) (replicate 58 0)
+
 abbrev pub plan_told : Solution ℕ → Told
-plan_told s = record { refusal = 0; price = s.price; tries = s.tries; len = s.len; bytes = s.bytes }
+plan_told s = record { refusal = 0; price = s.price; tries = s.tries; len = length (written s.plan); bytes = padded (written s.plan) }
 
 abbrev pub answer_told : Result (Solution ℕ) SolveRefusal → Told
 answer_told (Ok s) = plan_told s

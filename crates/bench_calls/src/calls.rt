@@ -21,16 +21,18 @@ fn refused(number: u8) -> Told
     }
 }
 
-// A plan, with its price and its tries.
+// A plan, with zeros behind its bytes, and its price and its tries.
 fn planned(found: Solution<u64>) -> Told
     ensures { result ≡ plan_told found }
 {
-    let bytes = found.bytes;
+    let plan = found.plan.as_slice();
+    let mut bytes = [0; 58];
+    bytes[..plan.len()].copy_from_slice(plan);
     Told {
         refusal: 0,
         price: found.price,
         tries: found.tries,
-        len: found.len as u64,
+        len: plan.len() as u64,
         bytes,
     }
 }

@@ -28,7 +28,7 @@ fn print_step(rt: &HostRuntime, step: Step) -> io::Result<()> {
 
 // The operations of a plan, each after what it works on.
 fn print_plan<P>(rt: &HostRuntime, found: &Solution<P>) -> io::Result<()> {
-    let told = &found.bytes[..found.len.min(found.bytes.len())];
+    let told = found.plan.as_slice();
     print!(rt; "   ")?;
     for bytes in told.as_chunks::<2>().0 {
         if let Ok(step) = Step::try_from(*bytes) {
