@@ -46,9 +46,10 @@ pub trait Worded: PriceModel {
     // A price in words.
     type Words: fmt::Display + Drop;
 
-    // The model, and what its prices go by.
+    // The model's name.
     const NAME: &'static str;
 
+    // What its prices go by.
     const TITLE: &'static str;
 
     fn words(&self, price: Self::Price) -> Self::Words;
