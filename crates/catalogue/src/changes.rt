@@ -99,7 +99,7 @@ impl Catalogue {
         Ok(())
     }
 
-    // Sets the test on a table.
+    // Sets the test on a table. A number that no kind has is refused here, in its place among the causes.
     pub fn test(
         &mut self,
         table: u8,

@@ -3,7 +3,7 @@ ghost use Rattle.std.specs.Prelude.{◌≡◌, ◌≤◌, length, count_ones};
 
 use sets::{Row, SmallSet};
 
-// The tables and tests of each part, the oldest first; `seen` are the tables of all.
+// The tables and tests of each part, the oldest first, in fixed memory; `seen` are the tables of all.
 #[derive(Clone, Copy)]
 pub(crate) struct Parts {
     pub(crate) rows: [Row; 10],

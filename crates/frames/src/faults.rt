@@ -36,7 +36,7 @@ pub enum FrameFault {
 }
 
 impl FrameFault {
-    // The number by which the fault is reported: a reading's fault keeps its own.
+    // The number by which the fault is reported: a reading's fault keeps its own, so it can't be a discriminant.
     pub fn number(self) -> u8
         ensures { result ≡ frame_fault_number self }
     {
@@ -56,6 +56,7 @@ impl FrameFault {
     }
 }
 
+// `From` is written out: the kit's derive of it has no contract, and clauses name the fault that `?` makes.
 impl From<ReadingFault> for FrameFault {
     ghost from_gives = { λ e r. r ≡ Reading e };
 

@@ -4,7 +4,7 @@ ghost use Rattle.frames.specs.Frames.{frame_of, correction_of, plain};
 
 use crate::FrameFault;
 
-// The kind bytes.
+// The kind bytes, as the format has them: a slice pattern names kind and fields in one.
 const TABLE: u8 = 1;
 
 const TIE: u8 = 2;

@@ -32,7 +32,7 @@ pub enum Refusal {
 }
 
 impl Refusal {
-    // The refusal's number, 1 to 19.
+    // The refusal's number, 1 to 19, which its cause has.
     pub fn number(self) -> u8
         ensures { result ≡ refusal_number self }
     {
@@ -45,6 +45,7 @@ impl Refusal {
     }
 }
 
+// `From` is written out: the kit's derive of it has no contract, and clauses name the refusal that `?` makes.
 impl From<ChangeRefusal> for Refusal {
     ghost from_gives = { λ e r. r ≡ Change e };
 

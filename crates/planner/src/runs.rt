@@ -88,6 +88,7 @@ pub fn replay<M: PriceModel>(
 {
     let mut question = Question::new(model);
     let count = calls.len().min(replies.len());
+    // Each call and the place of its reply, by one index.
     for i in 0..count {
         let answer = make(&mut question, calls[i], prices, sizes, choices);
         note(replies, i, answer);

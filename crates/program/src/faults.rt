@@ -19,7 +19,7 @@ pub enum ProgramFault {
 }
 
 impl ProgramFault {
-    // The refusal's number.
+    // The refusal's number, which its cause has.
     pub fn number(self) -> u8
         ensures { result ≡ program_number self }
     {
@@ -63,6 +63,7 @@ pub(crate) fn at_line<T>(judged: Result<T, ProgramFault>, line: u16) -> Result<T
     }
 }
 
+// `From` is written out: the kit's derive of it has no contract, and clauses name the fault that `?` makes.
 impl From<LineFault> for ProgramFault {
     ghost from_gives = { λ e r. r ≡ Line e };
 

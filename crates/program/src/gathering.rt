@@ -12,7 +12,7 @@ use frames::{Turn, next_line};
 use planner::Question;
 use pricing::PriceModel;
 
-// Judges the lines in their order, and answers the number of the last, which is the end's.
+// Judges the lines in their order, and answers the number of the last, which is the end's; so the lines are counted.
 pub(crate) fn gather<M: PriceModel>(
     question: &mut Question<M>,
     input: &[u8],

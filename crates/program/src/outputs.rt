@@ -9,7 +9,7 @@ use frames::put_line;
 // Room for a plan of 29 pairs, the longest price and the tries.
 const ROOM: usize = 191;
 
-// The bytes that are written so far, of which the first `len` count.
+// The bytes that are written so far, of which the first `len` count: lines are put into a lent room from a place on.
 #[derive(Clone, Copy)]
 pub struct Output {
     bytes: [u8; ROOM],

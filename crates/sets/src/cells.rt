@@ -48,7 +48,7 @@ impl<'a, T: Copy> Ragged<'a, T> {
         self.put_at(position(row, self.tested), value)
     }
 
-    // Writes the cell at a place, where the place of the row is known.
+    // Writes the cell at a place, where the place of the row is known. By index: what lent cells hold after `get_mut` is not told.
     pub fn put_at(&mut self, place: usize, value: T) -> bool
         ensures held { result ≡ nat_lt place (length self.old.cells.now) }
         ensures cells { self.new.cells.now ≡ updated self.old.cells.now place value }

@@ -44,7 +44,8 @@ fn with_candidate<M: PriceModel>(
     }
 }
 
-// The best of an earlier entry and the candidates made from the items, in their order.
+// The best of an earlier entry and the candidates made from the items, in their order. A loop, since a `fold` asks the bound on
+// the count over every run of the items.
 pub(crate) fn best_of<M: PriceModel, I: Iterator, F: Fn(I::Item) -> Option<Entry<M::Price>>>(
     model: &M,
     earlier: Tried<M::Price>,

@@ -4,7 +4,8 @@ ghost use Rattle.solver.specs.Ordered.{row_steps};
 
 use sets::{Row, SmallSet, next_row};
 
-// The rows from `next` on, where `tested` are the tables that have a test.
+// The rows from `next` on, where `tested` are the tables that have a test; the check has no proof yet of `successors` with a
+// closure in a generic function's loop.
 #[derive(Drop)]
 pub(crate) struct Rows {
     next: Option<Row>,
