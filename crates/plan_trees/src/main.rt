@@ -8,6 +8,7 @@ mod trees;
 use planner::{Question, Reply};
 use planning::plan;
 use pricing::{Clock, FetchPrice, FetchesFirst, PriceModel};
+use readoff::MOST_PLAN_BYTES;
 use sample::planned;
 use sets::Row;
 use sheet::{
@@ -34,7 +35,7 @@ fn print_plan<M: Worded>(
 ) -> io::Result<()> {
     let mut sizes = [0; ROWS];
     let mut choices = [0; ROWS];
-    let mut bytes = [0; 58];
+    let mut bytes = [0; MOST_PLAN_BYTES];
     match plan(question, prices, &mut sizes, &mut choices, &mut bytes) {
         Ok(told) => {
             let words = model.words(told.price);
@@ -61,7 +62,7 @@ fn print_plan<M: Worded>(
 
 // Whether a plan stands.
 fn print_standing<M: Worded>(rt: &HostRuntime, question: &Question<M>) -> io::Result<()> {
-    match question.tell(&mut [0; 58]) {
+    match question.tell(&mut [0; MOST_PLAN_BYTES]) {
         Ok(_) => println!(rt; "  {}: a plan stands", M::TITLE),
         Err(refusal) => {
             println!(rt;

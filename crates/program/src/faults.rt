@@ -57,10 +57,7 @@ pub struct Refused {
 pub(crate) fn at_line<T>(judged: Result<T, ProgramFault>, line: u16) -> Result<T, Refused>
     ensures { result ≡ on_line line judged }
 {
-    match judged {
-        Ok(value) => Ok(value),
-        Err(fault) => Err(Refused { fault, line }),
-    }
+    judged.map_err(|fault| Refused { fault, line })
 }
 
 // `From` is written out: the kit's derive of it has no contract, and clauses name the fault that `?` makes.
