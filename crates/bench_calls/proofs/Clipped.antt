@@ -33,7 +33,7 @@ module _ (Q : Question) (few : Q.count ≤ 10) where
   still_missing : (a : ℕ) → missing Q a ≡ true → missing Q (min a 255) ≡ true
   still_missing a m = le-leb Q.count (min a 255) (omega (arith, leb-true Q.count a m))
 
-  tied_clipped : (a b p q cost : ℕ) → tied Q (min a 255) (min b 255) p q cost ≡ tied Q a b p q cost
+  pub tied_clipped : (a b p q cost : ℕ) → tied Q (min a 255) (min b 255) p q cost ≡ tied Q a b p q cost
   tied_clipped a b p q cost = by (cases_Bool (missing Q a || missing Q b))
     where
       gone : (missing Q a ≡ true) ⊎ (missing Q b ≡ true) → (missing Q (min a 255) || missing Q (min b 255)) ≡ true
@@ -48,7 +48,7 @@ module _ (Q : Question) (few : Q.count ≤ 10) where
           let high = same b (omega (arith, leb-false Q.count b parts.1)) in
           ap (λ (n : ℕ). tied Q n (min b 255) p q cost) low ∙ ap (λ (n : ℕ). tied Q a n p q cost) high
 
-  tested_clipped : (a p q cost k : ℕ) → tested Q (min a 255) p q cost (min k 255) ≡ tested Q a p q cost k
+  pub tested_clipped : (a p q cost k : ℕ) → tested Q (min a 255) p q cost (min k 255) ≡ tested Q a p q cost k
   tested_clipped a p q cost k =
       by (cases_Bool (missing Q a)) ∙ ap (λ (o : Option Kind). unless (missing Q a) NoSuchTable (unless (bad_selectivity p q) BadSelectivity (tested_by Q a p q cost o))) (kinds (cases_lt 255 k))
     where

@@ -6,11 +6,11 @@ use Rattle.catalogue.specs.Changes.{Follows}
 use Rattle.catalogue.specs.declared.refusals.ChangeRefusal.{ChangeRefusal}
 use Rattle.bench_calls.specs.Built.{and_then, calls}
 
-taken : {X : Type 0} (o : Result Question ChangeRefusal) (before : Question) (x : X) (after : Question) → Follows {X = X} o before (Ok x) after → o ≡ Ok after
+pub taken : {X : Type 0} (o : Result Question ChangeRefusal) (before : Question) (x : X) (after : Question) → Follows {X = X} o before (Ok x) after → o ≡ Ok after
 taken (Ok Q) before x after f = ap Ok (sym f)
 taken (Err e) before x after f = absurd f
 
-refused : (X : Type 0) (o : Result Question ChangeRefusal) (before : Question) (e : ChangeRefusal) (after : Question) → Follows {X = X} o before (Err e) after → o ≡ Err e
+pub refused : (X : Type 0) (o : Result Question ChangeRefusal) (before : Question) (e : ChangeRefusal) (after : Question) → Follows {X = X} o before (Err e) after → o ≡ Err e
 refused X (Ok Q) before e after f = absurd f
 refused X (Err d) before e after f = ap Err (sym f.0)
 
@@ -19,12 +19,12 @@ module _ (call : Question → ℕ → Result Question ChangeRefusal) (Q : Questi
   unfolding calls
   none_called = refl
 
-  one_more : (k : ℕ) (W : Question) → calls call Q k ≡ Ok W → calls call Q (k + 1) ≡ call W k
+  pub one_more : (k : ℕ) (W : Question) → calls call Q k ≡ Ok W → calls call Q (k + 1) ≡ call W k
   unfolding calls
   one_more k W e = ap (calls call Q) (add-one k) ∙ ap (λ (o : Result Question ChangeRefusal). and_then o (λ V. call V k)) e
 
   -- A refusal stays.
-  still_refused : (k n : ℕ) (e : ChangeRefusal) → calls call Q k ≡ Err e → k ≤ n → calls call Q n ≡ Err e
+  pub still_refused : (k n : ℕ) (e : ChangeRefusal) → calls call Q k ≡ Err e → k ≤ n → calls call Q n ≡ Err e
   unfolding calls
   still_refused k zero e r h = let z : k ≡ 0 = omega arith in ap (calls call Q) (sym z) ∙ r
   still_refused k (suc n) e r h = by (cases_lt n k) (still_refused k n e r)

@@ -35,15 +35,15 @@ cut_given Q both_ways all L B l b given apart le be =
     same : across Q l b ≡ across Q L B
     same = ap₂ (across Q) (le ∙ ap (bit_and L) given) (be ∙ ap (bit_and B) given) ∙ across_given Q L B
 
-module _ (Q : Question) (R t r : ℕ) (in_set : has R t ≡ true) (rest_is : r ≡ R - 2 ^ t) (given : R ≤ all_tables Q) where
+module _ (Q : Question) (R t r : ℕ) (in_set : has R t ≡ true) (rest_is : r ≡ R - 2 ^ t) where
   whole : r + 2 ^ t ≡ R
   whole = omega (arith, one_le R t in_set)
 
   apart : bit_and (2 ^ t) r ≡ 0
   apart = ap (bit_and (2 ^ t)) rest_is ∙ rest_apart (2 ^ t) R (one_part R t in_set)
 
-  t_given : t < Q.count
-  t_given = ⊎_elim (λ l. l) (λ l. absurd (true≢false (sym in_set ∙ has_past Q.count R t (omega (arith, pow_pos Q.count)) l))) (cases_lt t Q.count)
+  t_given : R ≤ all_tables Q → t < Q.count
+  t_given given = ⊎_elim (λ l. l) (λ l. absurd (true≢false (sym in_set ∙ has_past Q.count R t (omega (arith, pow_pos Q.count)) l))) (cases_lt t Q.count)
 
   pub rest_below : r < R
   rest_below = omega (arith, whole, pow_pos t)
@@ -59,7 +59,7 @@ module _ (Q : Question) (R t r : ℕ) (in_set : has R t ≡ true) (rest_is : r �
   pub near_from : (m n : ℕ) → m ≡ near Q r → n ≡ near Q (2 ^ t) → bit_or m n ≡ near Q R
   near_from m n e f = ap₂ bit_or e f ∙ sym (near_sum Q r (2 ^ t) (and_comm r (2 ^ t) ∙ apart)) ∙ ap (near Q) whole
 
-  pub inside_from : CostsBothWays Q → (n v : ℕ) → n ≡ inside Q r → v ≡ sum_below (λ j. cond (has r j) (cost_of Q t j) 0) Q.count → n + v ≡ inside Q R
-  inside_from both_ways n v e sum =
+  pub inside_from : R ≤ all_tables Q → CostsBothWays Q → (n v : ℕ) → n ≡ inside Q r → v ≡ sum_below (λ j. cond (has r j) (cost_of Q t j) 0) Q.count → n + v ≡ inside Q R
+  inside_from given both_ways n v e sum =
       let turned : 2 ^ t + r ≡ R = omega (arith, whole) in
-      omega (arith, across_one Q t r t_given, inside_cut Q both_ways (2 ^ t) r apart, inside_one Q t, ap (inside Q) turned)
+      omega (arith, across_one Q t r (t_given given), inside_cut Q both_ways (2 ^ t) r apart, inside_one Q t, ap (inside Q) turned)

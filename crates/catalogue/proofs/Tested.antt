@@ -17,7 +17,7 @@ small_out S i h =
 pub or_above : (S i : ℕ) → S < 2 ^ i → bit_or S (2 ^ i) ≡ S + 2 ^ i
 or_above S i h = or_one S i (small_out S i h)
 
-still_below : (S i r : ℕ) (b : Bool) → S < 2 ^ i → r ≡ S + cond b (2 ^ i) 0 → r < 2 ^ (i + 1)
+pub still_below : (S i r : ℕ) (b : Bool) → S < 2 ^ i → r ≡ S + cond b (2 ^ i) 0 → r < 2 ^ (i + 1)
 still_below S i r true h e = omega (arith, ap (λ (k : ℕ). 2 ^ k) (add-one i) ∙ pow-suc 2 i)
 still_below S i r false h e = omega (arith, ap (λ (k : ℕ). 2 ^ k) (add-one i) ∙ pow-suc 2 i, pow_pos i)
 

@@ -14,7 +14,8 @@ use pricing::Kind;
 pub const MOST_ROWS: u32 = 16_777_215;
 
 impl Catalogue {
-    // No tables, no ties, no tests.
+    // No tables, no ties, no tests. Out of line, since a caller would else write and copy each tie by itself.
+    #[inline(never)]
     pub fn new() -> Catalogue
         ensures { asked result ≡ empty }
     {

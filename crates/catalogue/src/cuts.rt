@@ -71,7 +71,6 @@ fn neighbours(catalogue: &Catalogue, tables: SmallSet) -> SmallSet
 
 // The same as a number, from the cuts of the smaller sets.
 fn near_set(catalogue: &Catalogue, cuts: &[Cut; 1024], tables: SmallSet) -> u16
-    requires given { tables.bits ≤ all_tables (asked catalogue.now) }
     requires below { (x : ℕ) → x < tables.bits → HoldsAt (IsCut (asked catalogue.now) x) cuts.now x }
     ensures { result ≡ near_of (asked catalogue.now) tables.bits }
 {

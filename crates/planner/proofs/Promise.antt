@@ -208,6 +208,9 @@ run_more R [] (_ ∷ _) s t u c a r x = absurd r
 run_more R (_ ∷ _) [] s t u c a r x = absurd r
 run_more R (_ ∷ calls) (_ ∷ answers) s t u c a r x = (r.0, r.1, run_more R calls answers r.0 t u c a r.2 x)
 
+pub reached_more : {P : Type 0} (m : Model P) (s : State P) (c : Call) (a : Answer P) (t : State P) → Reached m s → Step m s c a t → Reached m t
+reached_more m s c a t r x = (r.0 ++ c ∷ [], r.1 ++ a ∷ [], run_more (Step m) r.0 r.1 fresh s t c a r.2 x)
+
 -- Of a run beside its lists, the calls alone.
 pub run_alone : {P : Type 0} (m : Model P) (calls : List Call) (answers : List (Answer P)) (u v : State P × Lent P) → Run (Works m) u calls answers v → Run (Step m) u.0 calls answers v.0
 run_alone {P} m [] [] u v r = ap (λ (w : State P × Lent P). w.0) r

@@ -2,7 +2,7 @@
 #![tactic(auto)]
 
 ghost use Rattle.std.specs.Prelude.{◌≡◌};
-ghost use Rattle.reading.specs.Faults.{fault_number, refusal_number};
+ghost use Rattle.reading.specs.Faults.{fault_number};
 ghost use Rattle.reading.specs.Undo.{Undo, Samples};
 
 mod reader;
@@ -34,15 +34,6 @@ impl ReadingFault {
     // The number by which the fault is reported.
     pub fn number(self) -> u8
         ensures { result ≡ fault_number self }
-    {
-        self as u8
-    }
-}
-
-impl WriteRefusal {
-    // The number by which the refusal is reported.
-    pub fn number(self) -> u8
-        ensures { result ≡ refusal_number self }
     {
         self as u8
     }

@@ -1,9 +1,19 @@
 // From a number to its text.
 ghost use Rattle.std.specs.Prelude.{◌≡◌};
+ghost use Rattle.reading.specs.Faults.{refusal_number};
 ghost use Rattle.reading.specs.Texts.{last_digit, five_digits, laid};
 ghost use Rattle.reading.specs.Outcomes.{Placed, Written, ReadsBack};
 
 use crate::{GREATEST_READING, WriteRefusal};
+
+impl WriteRefusal {
+    // The number by which the refusal is reported.
+    pub fn number(self) -> u8
+        ensures { result ≡ refusal_number self }
+    {
+        self as u8
+    }
+}
 
 // The character of the lowest digit.
 fn last_digit(number: u32) -> u8

@@ -37,10 +37,14 @@ pub fn print_by_number<M: Worded>(
     model: &M,
     checked: Result<M::Price, CheckRefusal>,
 ) -> io::Result<()> {
-    print!(rt; "  tests first and joins by number: ")?;
     match checked {
-        Ok(price) => println!(rt; "{}", model.words(price)),
-        Err(refusal) => println!(rt; "no plan (refusal {})", refusal.number()),
+        Ok(price) => println!(rt; "  tests first and joins by number: {}", model.words(price)),
+        Err(refusal) => {
+            println!(rt;
+                "  tests first and joins by number: no plan (refusal {})",
+                refusal.number()
+            )
+        }
     }
 }
 

@@ -33,7 +33,7 @@ module _ (Q : Question) (T R S : ℕ) (sizes : List ℕ) (turn : Turn Q T R S si
       (place_smaller (all_tests Q) A R (bit_and S A) S l)
 
   -- and of one test fewer
-  test_sized : (i : ℕ) → has S i ≡ true → slice_get sizes (place_of T R (S - 2 ^ i)) ≡ Some (size Q R (S - 2 ^ i))
+  pub test_sized : (i : ℕ) → has S i ≡ true → slice_get sizes (place_of T R (S - 2 ^ i)) ≡ Some (size Q R (S - 2 ^ i))
   test_sized i h =
       let own : Own Q R (S - 2 ^ i) = part_chain (S - 2 ^ i) S (tests_on (all_tests Q) R) (without_part S i h) turn.own in
       at_place R (S - 2 ^ i) own (place_fewer (all_tests Q) R (S - 2 ^ i) S own turn.own (omega (arith, one_le S i h, pow_pos i)))
@@ -41,7 +41,7 @@ module _ (Q : Question) (T R S : ℕ) (sizes : List ℕ) (turn : Turn Q T R S si
 -- ---- what is read of a part
 
 -- by what the code has of the row
-side_as : {P : Type 0} (r : Option (Side P)) (table : ℕ → ℕ → Option (Entry P)) (sizes : List ℕ) (T A B A' B' n : ℕ) → A ≡ A' → B ≡ B' → slice_get sizes (place_of T A' B') ≡ Some n
+pub side_as : {P : Type 0} (r : Option (Side P)) (table : ℕ → ℕ → Option (Entry P)) (sizes : List ℕ) (T A B A' B' n : ℕ) → A ≡ A' → B ≡ B' → slice_get sizes (place_of T A' B') ≡ Some n
     → r ≡ side_of (table A B) (slice_get sizes (place_of T A B)) → r ≡ side_of (table A' B') (Some n)
 side_as r table sizes T A B A' B' n e f at h = h ∙ ap₂ (λ (x y : ℕ). side_of (table x y) (slice_get sizes (place_of T x y))) e f ∙ ap (side_of (table A' B')) at
 

@@ -15,7 +15,7 @@ module _ (Q : Question) (R L : ℕ) where
   unfolding splits
   splits_outside ne = and_right (ltb 0 L) _ (and_right (ltb L R) _ (and_left (within L R) _ (ne_eqb (bit_and L R) L ne)))
 
-  splits_linked : 0 < L → L < R → L ⊆ R → splits Q R L ≡ linked Q L (R - L)
+  pub splits_linked : 0 < L → L < R → L ⊆ R → splits Q R L ≡ linked Q L (R - L)
   unfolding splits
   splits_linked some proper part =
       ap (λ (b : Bool). b && (ltb L R && (within L R && linked Q L (R - L)))) (lt-ltb 0 L some) ∙ ap (λ (b : Bool). b && (within L R && linked Q L (R - L))) (lt-ltb L R proper)

@@ -136,7 +136,7 @@ module _ {P : Type 0} (m : Model P) (Q : Question) where
     }
 
     -- The row's entry, from the rows before it, is that of its plan.
-    entry_right : (e : Option (Entry P)) → e ≡ row_entry m Q (held prices choices (all_tests Q)) R S → e ≡ entry m Q (opt m Q R S)
+    pub entry_right : (e : Option (Entry P)) → e ≡ row_entry m Q (held prices choices (all_tests Q)) R S → e ≡ entry m Q (opt m Q R S)
     entry_right e v =
         v ∙ sym (entry_row m Q (held prices choices (all_tests Q)) R S (own_tables Q R S o) (held_before m Q p prices₀ prices sizes₀ sizes choices₀ choices h R S o at))
 

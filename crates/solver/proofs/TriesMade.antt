@@ -6,11 +6,11 @@ use Rattle.plans.specs.Entries.{better, best_entry}
 use Rattle.plans.specs.Recurrence.{found}
 use Rattle.plans.proofs.RowEntries.{best_entry_none, best_entry_more}
 
-found_none : {X : Type 0} (f : ℕ → Option X) → found f 0 ≡ 0
+pub found_none : {X : Type 0} (f : ℕ → Option X) → found f 0 ≡ 0
 unfolding found
 found_none f = refl
 
-found_more : {X : Type 0} (f : ℕ → Option X) (n : ℕ) → found f (n + 1) ≡ found f n + cond (is_some (f n)) 1 0
+pub found_more : {X : Type 0} (f : ℕ → Option X) (n : ℕ) → found f (n + 1) ≡ found f n + cond (is_some (f n)) 1 0
 unfolding found
 found_more f n = ap (found f) (add-one n)
 

@@ -90,6 +90,14 @@ solved_as m Q p q prices₀ a b sizes₀ c d choices₀ e f end ab cd ef s =
     (subst (λ (x : List ℕ). Solved m Q p prices₀ a sizes₀ x choices₀ f) cd
     (subst (λ (x : List ℕ). Solved m Q p prices₀ a sizes₀ c choices₀ x) ef s)))
 
+-- The same of lists that were given and are equal.
+pub solved_given : {P : Type 0} (m : Model P) (Q : Question) (p : ℕ) (a b prices : List P) (c d sizes e f choices : List ℕ) → a ≡ b → c ≡ d → e ≡ f
+    → Solved m Q p a prices c sizes e choices → Solved m Q p b prices d sizes f choices
+solved_given m Q p a b prices c d sizes e f choices ab cd ef s =
+    subst (λ x. Solved m Q p x prices d sizes f choices) ab
+    (subst (λ (x : List ℕ). Solved m Q p a prices x sizes f choices) cd
+    (subst (λ (x : List ℕ). Solved m Q p a prices c sizes x choices) ef s))
+
 -- Where no row comes, all have.
 pub all_turns : (Q : Question) (p rows : ℕ) (next : Option Row) → p ≤ rows → (p < rows → IsSomeAnd next (TurnAt Q p)) → None ≡ next → p ≡ rows
 all_turns Q p rows next l turn e = ⊎_elim

@@ -15,7 +15,7 @@ pub overflow_add-result : goal.overflow_add-result
 overflow_add-result c =
     let Q = asked c.args.catalogue.now in
     let t = c.in-Some.ensures in
-    let less = rest_below Q c.args.tables.bits c.in-Some.table c.without_member-rest.result.bits t.0 (c.without_member-rest.ensures.inside t.0) c.requires.given in
+    let less = rest_below Q c.args.tables.bits c.in-Some.table c.without_member-rest.result.bits t.0 (c.without_member-rest.ensures.inside t.0) in
     let below = c.requires.below c.bits.result (omega (arith, less, c.bits.ensures)) no_cut in
     record { fits = omega (arith, less, c.bits.ensures, below.2, c.costs_to.ensures.bound, c.args.tables.few) }
 
@@ -28,7 +28,7 @@ returns c =
     let i = c.in-Some.table in
     let r = c.without_member-rest.result.bits in
     let rest = c.without_member-rest.ensures.inside t.0 in
-    let less = rest_below Q R i r t.0 rest c.requires.given in
+    let less = rest_below Q R i r t.0 rest in
     let below = c.requires.below c.bits.result (omega (arith, less, c.bits.ensures)) no_cut in
     record {
       value = inside_from Q R i r t.0 rest c.requires.given (costs_both_ways q) _ c.costs_to.result (below.1 ∙ ap (inside Q) c.bits.ensures) c.costs_to.ensures.value;

@@ -17,8 +17,8 @@ returns c =
     let i = c.in-Some.table in
     let r = c.without_member-rest.result.bits in
     let rest = c.without_member-rest.ensures.inside t.0 in
-    let less = rest_below Q R i r t.0 rest c.requires.given in
-    let alone = c.bits-3.ensures ∙ one_alone Q R i r t.0 rest c.requires.given c.without.result.bits c.without.ensures in
-    let single = one_below Q R i r t.0 rest c.requires.given (eqb-false r 0 (sym c.if-is_empty.ensures)) in
-    near_from Q R i r t.0 rest c.requires.given _ _ ((c.requires.below c.bits-2.result (omega (arith, less, c.bits-2.ensures)) no_cut).0 ∙ ap (near Q) c.bits-2.ensures)
+    let less = rest_below Q R i r t.0 rest in
+    let alone = c.bits-3.ensures ∙ one_alone Q R i r t.0 rest c.without.result.bits c.without.ensures in
+    let single = one_below Q R i r t.0 rest (eqb-false r 0 (sym c.if-is_empty.ensures)) in
+    near_from Q R i r t.0 rest _ _ ((c.requires.below c.bits-2.result (omega (arith, less, c.bits-2.ensures)) no_cut).0 ∙ ap (near Q) c.bits-2.ensures)
     ((c.requires.below c.bits-3.result (omega (arith, single, alone)) no_cut).0 ∙ ap (near Q) alone)
